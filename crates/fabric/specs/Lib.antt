@@ -1,0 +1,5 @@
+pub mod Layouts
+pub mod Meshes
+pub mod Ports
+pub mod Refusals
+pub mod Verdicts
