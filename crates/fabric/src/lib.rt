@@ -1,4 +1,4 @@
-// What every part of the model speaks of: ports, slots and flits, refusals, and layouts.
+// What every part of the model speaks of: ports, slots, cables and flits, refusals, and layouts.
 pub mod layout;
 pub mod mesh;
 pub mod parts;

@@ -1,4 +1,4 @@
-// Ports, slots and flits.
+// Ports, slots, cables and flits.
 ghost use mathlib.Core.Path.{_≡_};
 ghost use Rattle.std.specs.declared.option.Option.the-variants.{Some};
 ghost use Rattle.fabric.specs.Ports.{place-of, letter};
@@ -40,6 +40,13 @@ pub impl fmt::Display for Port as PortDisplay {
 pub struct Slot {
     pub node: usize,
     pub port: Port,
+}
+
+// A cable joins two ports, of one node or of two.
+#[derive(Clone, Copy, PartialEq, Eq, Debug)]
+pub struct Cable {
+    pub one: Slot,
+    pub other: Slot,
 }
 
 // One word of a packet under way.
