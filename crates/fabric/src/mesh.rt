@@ -97,3 +97,30 @@ pub impl Layout for Mesh as MeshLayout {
         self.width + self.height - 2
     }
 }
+
+#[cfg(test)]
+mod tests {
+    use super::*;
+    use std::test::*;
+
+    // The number that refuses a mesh of these sides, or 0.
+    fn refused(width: usize, height: usize) -> u8 {
+        match Mesh::new(width, height) {
+            Ok(_) => 0,
+            Err(refusal) => refusal.number(),
+        }
+    }
+
+    #[test]
+    fn sizes() -> Result<(), Fail> {
+        check_eq(refused(64, 1), 0)?;
+        check_eq(refused(1, 64), 0)?;
+        check_eq(refused(8, 8), 0)?;
+        check_eq(refused(13, 5), 12)?;
+        check_eq(refused(0, 1), 12)?;
+        check_eq(refused(1, 0), 12)?;
+        check_eq(refused(usize::MAX, 2), 12)?;
+        // 2^32 times 2^32 is 0 in 64 bits
+        check_eq(refused(4294967296, 4294967296), 12)
+    }
+}

@@ -1,0 +1,3 @@
+pub mod Lateness
+pub mod SetUp
+pub mod Ways
