@@ -1,0 +1,6 @@
+use mathlib.Core.Path.{refl}
+use Rattle.line.proofs.Orders.{first-out}
+use Rattle.line.proofs.ring.Line.new.Needs as need
+
+pub returns : need.returns
+returns g c = record { queue = refl; runs = first-out (c .args .memory .now); lender = refl }

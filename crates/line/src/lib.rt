@@ -1,0 +1,4 @@
+// The line: a queue over memory that the caller lends (in the field: a ring buffer, first in, first out).
+pub mod ring;
+
+pub use ring::Line;
