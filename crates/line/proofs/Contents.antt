@@ -82,6 +82,9 @@ module _ {A : Type 0} (ms : List A) (f : ℕ) (l : f < length ms) where
       ∙ ap (λ r. getD ms f d ∷ r) (laid-next n (omega arith))
       ∙ ap (λ k. getD ms f d ∷ laid ms ((f + 1) % length ms) k) e
 
+pub nothing-held : {A : Type 0} (q : Queue A) → q .held ≡ 0 → contents q ≡ []
+nothing-held q e = ap (laid (q .memory) (q .first)) e
+
 module _ {A : Type 0} (q : Queue A) (s : Sound q) where
   pub in-turn : In-turn q
   in-turn = record {
