@@ -30,15 +30,15 @@ module _ {A : Type 0} (ms : List A) (f : ℕ) (l : f < length ms) where
   laid-each n i d h k =
       getD-take n (drop f ms ++ ms) i d h
       ∙ ⊎-elim
-        (λ j.
-        getD-append-left (drop f ms) ms d i (omega (arith, length-drop f ms))
-        ∙ getD-drop f ms i d
-        ∙ ap (λ p. getD ms p d) (sym (ahead f i (length ms) j)))
-        (λ j.
-        let e : i - (length ms - f) ≡ f + i - length ms = omega arith in
-        getD-append-right (drop f ms) ms (length ms - f) i d (length-drop f ms) (omega arith)
-        ∙ ap (λ p. getD ms p d) (e ∙ sym (around f i (length ms) l (omega arith) j)))
-        (cases-lt (f + i) (length ms))
+      (λ j.
+      getD-append-left (drop f ms) ms d i (omega (arith, length-drop f ms))
+      ∙ getD-drop f ms i d
+      ∙ ap (λ p. getD ms p d) (sym (ahead f i (length ms) j)))
+      (λ j.
+      let e : i - (length ms - f) ≡ f + i - length ms = omega arith in
+      getD-append-right (drop f ms) ms (length ms - f) i d (length-drop f ms) (omega arith)
+      ∙ ap (λ p. getD ms p d) (e ∙ sym (around f i (length ms) l (omega arith) j)))
+      (cases-lt (f + i) (length ms))
 
   put-ahead : (n : ℕ) (x : A) → f + n < length ms → laid (set ms (f + n) x) f (n + 1) ≡ laid ms f n ++ x ∷ []
   put-ahead n x h =

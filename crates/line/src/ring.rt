@@ -1,7 +1,8 @@
 // The line's memory, and which of its places are in use.
 ghost use Rattle.line.specs.Queues.{Sound};
 
-mod methods;
+mod places;
+mod uses;
 
 // Places are filled in turn and round again; what is held begins at the place `first`.
 #[derive(Drop)]

@@ -4,7 +4,7 @@ use mathlib.Core.Bool.{true}
 use native.Mathlib.Omega.{arith}
 use lib.ListN.{length, set}
 use Rattle.std.proofs.shelf.Tests.{cond-true, cond-false, eq-eqb}
-use Rattle.line.specs.Queues.{Queue, contents, free-places, full, put}
+use Rattle.line.specs.Queues.{Queue, contents, free-places, full, place, put}
 use Rattle.line.specs.Runs.{used}
 use Rattle.line.specs.Runs.Use.{puts}
 use Rattle.line.specs.Lines.{queue-of}
@@ -12,8 +12,8 @@ use Rattle.line.proofs.Contents.{put-contents}
 use Rattle.line.proofs.Orders.{room, put-room, put-full, continues}
 use Rattle.line.proofs.ring.Line.put.Needs as need
 
-pub returns-then-free-eq0 : need.returns-then-free-eq0
-returns-then-free-eq0 g c =
+pub returns-then-self : need.returns-then-self
+returns-then-self g c =
     let q = queue-of (c .args .self .now) in
     let x = c .args .x in
     let f : full q ≡ true = eq-eqb (free-places q) 0 (omega arith) in
@@ -21,9 +21,9 @@ returns-then-free-eq0 g c =
     record {
       answer = sym (cond-true (full q) _ _ f);
       queue = u;
-      contents = refl;
+      contents = refl {a = contents q};
       runs = continues q (puts x) q u;
-      lender = refl;
+      lender = refl {a = c .args .self .now .memory .name};
     }
 
 pub returns : need.returns
@@ -32,13 +32,14 @@ returns g c =
     let q = queue-of s in
     let x = c .args .x in
     let h : q .held < length (q .memory) = omega arith in
+    let p : c .place-next .result ≡ place q (q .held) = omega arith in
     let r : Queue (g .T .Denot) = record { memory = set (q .memory) (c .place-next .result) x; first = q .first; held = q .held + 1 } in
-    let e : r ≡ put q x = ap (λ i. record { memory = set (q .memory) i x; first = q .first; held = q .held + 1 }) (c .place-next .ensures) in
+    let e : r ≡ put q x = ap (λ i. record { memory = set (q .memory) i x; first = q .first; held = q .held + 1 }) p in
     let u = e ∙ sym (put-room q x h) in
     record {
       answer = sym (cond-false (full q) _ _ (room q h));
       queue = u;
       contents = ap contents e ∙ put-contents q (s .sound) x h;
       runs = continues q (puts x) r u;
-      lender = refl;
+      lender = refl {a = c .args .self .now .memory .name};
     }

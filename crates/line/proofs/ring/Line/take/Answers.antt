@@ -3,7 +3,7 @@ use mathlib.Core.Path.{_≡_, refl, sym, _∙_, ap}
 use mathlib.Core.List.{_∷_}
 use native.Mathlib.Omega.{arith}
 use lib.ListN.{getD}
-use Rattle.line.specs.Queues.{Queue, contents, first-of, take}
+use Rattle.line.specs.Queues.{Queue, contents, first-of, place, take}
 use Rattle.line.specs.Runs.Use.{takes}
 use Rattle.line.specs.Lines.{queue-of}
 use Rattle.line.proofs.Contents.{nothing-held, take-contents}
@@ -20,7 +20,7 @@ returns-then-self-eq0 g c =
       queue = u;
       contents = (n, n);
       runs = continues q takes q u;
-      lender = refl;
+      lender = refl {a = c .args .self .now .memory .name};
     }
 
 pub returns : need.returns
@@ -29,8 +29,9 @@ returns g c =
     let q = queue-of s in
     let x = c .index-self-self .result in
     let h : 0 < q .held = omega arith in
+    let p : c .place-self .result ≡ place q 1 = omega arith in
     let r : Queue (g .T .Denot) = record { memory = q .memory; first = c .place-self .result; held = q .held - 1 } in
-    let e : r ≡ take q = ap (λ i. record { memory = q .memory; first = i; held = q .held - 1 }) (c .place-self .ensures) in
+    let e : r ≡ take q = ap (λ i. record { memory = q .memory; first = i; held = q .held - 1 }) p in
     let u = e ∙ sym (take-some q h) in
     let k = take-contents q (s .sound) x h ∙ ap (λ t. getD (q .memory) (q .first) x ∷ contents t) (sym e) in
     record {
@@ -38,5 +39,5 @@ returns g c =
       queue = u;
       contents = k;
       runs = continues q takes r u;
-      lender = refl;
+      lender = refl {a = c .args .self .now .memory .name};
     }
