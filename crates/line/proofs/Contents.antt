@@ -8,7 +8,7 @@ use native.Mathlib.Omega.{arith}
 use lib.ListN.{length, getD, set, drop, take as front}
 use Rattle.std.proofs.shelf.Lists.{length-drop, length-set, length-append, length-take-le, drop-set-add, drop-set-lt, take-append-le, take-more-set, set-append-right, drop-more, drop-all, getD-take, getD-drop, getD-append-left, getD-append-right}
 use Rattle.std.proofs.shelf.Tests.{cases-lt}
-use Rattle.line.specs.Queues.{Queue, Sound, In-turn, contents, place, put, take}
+use Rattle.line.specs.Queues.{Queue, Sound, In-turn, contents, put, take}
 
 -- n places after the place f of c places: before the end, and round it
 pub ahead : (f n c : ℕ) → f + n < c → (f + n) % c ≡ f + n
@@ -21,9 +21,8 @@ around f n c h k l = mod-eq-sub-mod l ∙ mod-eq-of-lt (omega arith)
 abbrev laid : {A : Type 0} → List A → ℕ → ℕ → List A
 laid ms f n = front n (drop f ms ++ ms)
 
-module _ {A : Type 0} (ms : List A) (f : ℕ) where
-  laid-length : (n : ℕ) → n ≤ length ms → length (laid ms f n) ≡ n
-  laid-length n h = length-take-le n (drop f ms ++ ms) (omega (arith, length-append (drop f ms) ms))
+laid-length : {A : Type 0} (ms : List A) (f n : ℕ) → n ≤ length ms → length (laid ms f n) ≡ n
+laid-length ms f n h = length-take-le n (drop f ms ++ ms) (omega (arith, length-append (drop f ms) ms))
 
 module _ {A : Type 0} (ms : List A) (f : ℕ) (l : f < length ms) where
   laid-each : (n i : ℕ) (d : A) → i < n → n ≤ length ms → getD (laid ms f n) i d ≡ getD ms ((f + i) % length ms) d
@@ -40,6 +39,7 @@ module _ {A : Type 0} (ms : List A) (f : ℕ) (l : f < length ms) where
       ∙ ap (λ p. getD ms p d) (e ∙ sym (around f i (length ms) l (omega arith) j)))
       (cases-lt (f + i) (length ms))
 
+  -- a value more: before the memory's end, and round it
   put-ahead : (n : ℕ) (x : A) → f + n < length ms → laid (set ms (f + n) x) f (n + 1) ≡ laid ms f n ++ x ∷ []
   put-ahead n x h =
       ap (λ d. front (n + 1) (d ++ set ms (f + n) x)) (drop-set-add f ms n x)

@@ -1,5 +1,5 @@
 -- Every run of uses is first in, first out.
-use Prim.Native.Nat.{ℕ, _+_, _<_, zero-le}
+use Prim.Native.Nat.{_+_, _<_, zero-le}
 use mathlib.Core.Path.{_≡_, refl, sym, _∙_, ap}
 use mathlib.Core.Bool.{Bool, true, false, cond}
 use mathlib.Core.List.{List, [], _∷_, _++_, append-nil, append-assoc}
@@ -15,7 +15,7 @@ use Rattle.line.specs.Runs.Use.{puts, takes}
 use Rattle.line.proofs.Contents.{nothing-held, put-contents, take-contents}
 
 module _ {A : Type 0} where
-  -- where a put and a take lead, if there is room and if there is not, if something is held and if nothing is
+  -- where a put leads with room and without, and a take with something held and with nothing
   pub room : (q : Queue A) → q .held < length (q .memory) → full q ≡ false
   room q h = ne-eqb (free-places q) 0 (λ z. omega arith)
 

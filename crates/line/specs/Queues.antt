@@ -9,7 +9,7 @@ use Rattle.std.specs.declared.option.Option.{Option}
 use Rattle.std.specs.declared.option.Option.the-variants.{Some, None}
 use Rattle.fabric.specs.Verdicts.{Verdict, judged}
 
--- as many values as are held lie from the place `first` on
+-- as many values as are held lie in turn from the place `first` on
 pub record Queue (A : Type 0) : Type 0 where
   pub memory : List A
   pub first : ℕ
@@ -21,6 +21,7 @@ first-of [] = None
 first-of (x ∷ xs) = Some x
 
 module _ {A : Type 0} where
+  -- nothing is held
   abbrev pub empty : List A → Queue A
   empty ms = record { memory = ms; first = 0; held = 0 }
 
@@ -59,5 +60,6 @@ module _ {A : Type 0} where
   abbrev pub take : Queue A → Queue A
   take q = record { memory = q .memory; first = place q 1; held = q .held - 1 }
 
+  -- a put is refused by 18 where no place is free
   abbrev pub put-verdict : Queue A → Verdict (Unit {0})
   put-verdict q = judged ((18, full q) ∷ []) tt

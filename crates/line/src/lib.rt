@@ -1,4 +1,4 @@
-// The line: a queue over memory that the caller lends (in the field: a ring buffer, first in, first out).
+// The line: a queue over memory that the caller lends.
 pub mod ring;
 #[cfg(test)]
 mod tests;

@@ -1,10 +1,11 @@
-// The line's memory, and which of its places are in use.
+// The memory of a line, and how much of it is in use.
 ghost use Rattle.line.specs.Queues.{Sound};
 
 mod places;
 mod uses;
 
-// Places are filled in turn and round again; what is held begins at the place `first`.
+// A line (in the field: a ring buffer) is first in, first out.
+// It fills the places of its memory in turn and round again; what it holds begins at the place `first`.
 #[derive(Drop)]
 pub struct Line<'a, T> {
     memory: &'a mut [T],

@@ -5,7 +5,6 @@ use native.Mathlib.Omega.{arith}
 use lib.ListN.{length, set}
 use Rattle.std.proofs.shelf.Tests.{cond-true, cond-false, eq-eqb}
 use Rattle.line.specs.Queues.{Queue, contents, free-places, full, place, put}
-use Rattle.line.specs.Runs.{used}
 use Rattle.line.specs.Runs.Use.{puts}
 use Rattle.line.specs.Lines.{queue-of}
 use Rattle.line.proofs.Contents.{put-contents}
