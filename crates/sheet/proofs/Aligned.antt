@@ -57,16 +57,17 @@ pub matched : (A L : List (List Field)) (rest s : List ℕ) → All Tidy A → A
 matched A L rest s f g e n =
     ⊎-elim
     (λ l.
-      let t : length (take (length A + 1) L) ≡ length A + 1 = length-take-le (length A + 1) L (omega arith) in
-      let h = aligned A (take (length A + 1) L) rest s f (all-take Tidy (length A + 1) L g) (omega arith) e in
-      ((λ j k. h .0 j k ∙ ap row (getD-take (length A + 1) L j [] (omega arith))),
-       inr (l, (s, h .1 ∙ ap (λ q. text q ++ s) (drop-take (length A) 1 L ∙ ap (take 1) (drop-more L (length A) [] l)) ∙ ap (λ q. q ++ s) (append-nil (written (getD L (length A) [])))))))
+    let t : length (take (length A + 1) L) ≡ length A + 1 = length-take-le (length A + 1) L (omega arith) in
+    let h = aligned A (take (length A + 1) L) rest s f (all-take Tidy (length A + 1) L g) (omega arith) e in (
+      (λ j k. h .0 j k ∙ ap row (getD-take (length A + 1) L j [] (omega arith))),
+      inr (l, (s, h .1 ∙ ap (λ q. text q ++ s) (drop-take (length A) 1 L ∙ ap (take 1) (drop-more L (length A) [] l)) ∙ ap (λ q. q ++ s) (append-nil (written (getD L (length A) []))))),
+    ))
     (λ l.
-      let t : take (length A + 1) L ≡ L = take-all (length A + 1) L (omega arith) in
-      let z : s ≡ [] = n (omega arith) in
-      let e′ : text L ++ [] ≡ text A ++ rest = sym (e ∙ ap (λ q. text q ++ s) t ∙ ap (λ q. text L ++ q) z) in
-      let h = aligned L A [] rest g f l e′ in
-      let o = none-joined (drop (length L) A) rest (h .1) in
-      let same : length L ≡ length A = omega (arith, ap length (o .0), length-drop (length L) A) in
-      ((λ j k. sym (h .0 j (omega arith))), inl (same, o .1)))
+    let t : take (length A + 1) L ≡ L = take-all (length A + 1) L (omega arith) in
+    let z : s ≡ [] = n (omega arith) in
+    let e′ : text L ++ [] ≡ text A ++ rest = sym (e ∙ ap (λ q. text q ++ s) t ∙ ap (λ q. text L ++ q) z) in
+    let h = aligned L A [] rest g f l e′ in
+    let o = none-joined (drop (length L) A) rest (h .1) in
+    let same : length L ≡ length A = omega (arith, ap length (o .0), length-drop (length L) A) in
+    ((λ j k. sym (h .0 j (omega arith))), inl (same, o .1)))
     (cases-lt (length A) (length L))

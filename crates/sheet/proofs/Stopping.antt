@@ -18,11 +18,12 @@ use Rattle.sheet.proofs.Aligned.{cut, Matched, matched}
 -- up to the first byte 10, at index `end`
 pub lined : (rest : List ℕ) (end : ℕ) (ws : List (List ℕ)) → end < length rest → Free 10 (take end rest) → getD rest end 0 ≡ 10 → ws ≡ parted 32 (take (end - 0) rest) →
     Lined rest ws (take (length rest - (end + 1)) (drop (end + 1) rest))
-lined rest end ws l f g w =
-    (take end rest,
-     sym (take-append-drop end rest) ∙ ap (λ r. take end rest ++ r) (drop-more rest end 0 l ∙ ap (λ x. x ∷ drop (end + 1) rest) g ∙ ap (λ r. 10 ∷ r) (sym (take-rest rest (end + 1)))),
-     f,
-     w ∙ ap (λ k. parted 32 (take k rest)) (let z : end - 0 ≡ end = omega arith in z))
+lined rest end ws l f g w = (
+  take end rest,
+  sym (take-append-drop end rest) ∙ ap (λ r. take end rest ++ r) (drop-more rest end 0 l ∙ ap (λ x. x ∷ drop (end + 1) rest) g ∙ ap (λ r. 10 ∷ r) (sym (take-rest rest (end + 1)))),
+  f,
+  w ∙ ap (λ k. parted 32 (take k rest)) (let z : end - 0 ≡ end = omega arith in z),
+)
 
 -- the words of a line are those of its fields
 is-line : (l : List Field) (rest more : List ℕ) (ws : List (List ℕ)) → Lined rest ws more → ws ≡ map shown l → rest ≡ written l ++ more
@@ -44,7 +45,8 @@ pub onward : (A : List (List Field)) (l : List Field) (bs : List ℕ) (s t : Lin
 onward A l bs s t ws a n k e =
     record {
       rest = a .rest ∙ ap (λ q. text A ++ q) (is-line l (s .rest .now) (t .rest .now) ws n e) ∙ sym (append-assoc (text A) (written l) (t .rest .now)) ∙ ap (λ q. q ++ t .rest .now) (joined-more written [] A l);
-      read = k ∙ ap (λ i. i + 1) (a .read) ∙ sym (length-push A l) }
+      read = k ∙ ap (λ i. i + 1) (a .read) ∙ sym (length-push A l);
+    }
 
 -- the text begins with no line of the kind
 abbrev pub Barred : {X : Type 0} → (X → List Field) → (X → Type 0) → List ℕ → Type 0
@@ -67,17 +69,28 @@ module _ {X : Type 0} (line : X → List Field) (P : X → Type 0) (rest : List 
 -- the lines A were read, some lawful document begins with them, and none goes on
 module _ {D : Type 0} (lines : D → List (List Field)) (Lawful Unlimited : D → Type 0) (A : List (List Field)) (bs : List ℕ) (s : Lines) (a : At A bs s) where
   along : (P : D → Type 0) (d : D) (Z : List (List Field)) → P d → lines d ≡ A ++ Z → Goes-on lines P (length A) bs
-  along P d Z h z =
-      (d, h,
-       (s .rest .now,
-        a .rest ∙ ap (λ q. text q ++ s .rest .now) (sym (ap (take (length A)) z ∙ take-at A Z (length A) refl)),
-        λ l. absurd (let y : ⊥ = omega (arith, ap length z, length-append A Z) in y)))
+  along P d Z h z = (
+    d,
+    h,
+    (
+      s .rest .now,
+      a .rest ∙ ap (λ q. text q ++ s .rest .now) (sym (ap (take (length A)) z ∙ take-at A Z (length A) refl)),
+      λ l. absurd (let y : ⊥ = omega (arith, ap length z, length-append A Z) in y),
+    ),
+  )
 
   pub halted : (f : Fault) (d : D) (Z : List (List Field)) → length bs ≤ 65536 → ((d : D) → Lawful d → Unlimited d) → ((d : D) → Unlimited d → All Tidy (lines d)) →
       Lawful d → lines d ≡ A ++ Z → told f ≡ ill-formed (s .read + 1) → All Tidy A → ((d : D) → Unlimited d → Matched A (lines d) (s .rest .now) → ⊥) → Faulty lines Lawful Unlimited bs f
   halted f d Z short weaker tidy h z at t none =
       let no : Goes-on lines Unlimited (length A + 1) bs → ⊥ = λ g. none (g .0) (g .1) (matched A (lines (g .0)) (s .rest .now) (g .2 .0) t (tidy (g .0) (g .1)) (sym (a .rest) ∙ g .2 .1) (g .2 .2)) in
-      inr (short, (length A, record {
-        before = along Lawful d Z h z;
-        ends = λ g. no (g .0, weaker (g .0) (g .1), g .2);
-        fault = inl (at ∙ ap (λ k. ill-formed (k + 1)) (a .read), no) }))
+      inr (
+        short,
+        (
+          length A,
+          record {
+            before = along Lawful d Z h z;
+            ends = λ g. no (g .0, weaker (g .0) (g .1), g .2);
+            fault = inl (at ∙ ap (λ k. ill-formed (k + 1)) (a .read), no);
+          },
+        ),
+      )

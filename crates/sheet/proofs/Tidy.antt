@@ -49,7 +49,8 @@ tidy : (f : Field) (fs : List Field) → All Fits (f ∷ fs) → All Plain (f �
 tidy f fs h p =
     record {
       ends = all-append (λ x. x ≡ 10 → ⊥) (shown f) (joined (λ v. 32 ∷ v) (map shown fs)) (free-10 f (h .0) (p .0)) (joined-free fs (h .1) (p .1));
-      parts = parted-spaced (shown f) (map shown fs) (all-32 (f ∷ fs) h p) }
+      parts = parted-spaced (shown f) (map shown fs) (all-32 (f ∷ fs) h p);
+    }
 
 pub tidy-shape : (x : Shape) → All Fits (shape-line x) → Tidy (shape-line x)
 tidy-shape (Mesh w h) f = tidy _ _ f ((omega arith, omega arith), (tt, (tt, tt)))

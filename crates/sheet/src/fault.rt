@@ -39,14 +39,22 @@ impl Fault {
     pub(crate) fn too_long() -> Fault
         ensures { λ r. ⌜ told r ≡ too-long ⌝ }
     {
-        Fault { refusal: Refusal::Length, layer: Layer::Sheet, line: 0 }
+        Fault {
+            refusal: Refusal::Length,
+            layer: Layer::Sheet,
+            line: 0,
+        }
     }
 
     // The line is not of its form, lacks its end, is missing or is one too many.
     pub(crate) fn ill_formed(line: u32) -> Fault
         ensures { λ r. ⌜ told r ≡ ill-formed line ⌝ }
     {
-        Fault { refusal: Refusal::Form, layer: Layer::Sheet, line }
+        Fault {
+            refusal: Refusal::Form,
+            layer: Layer::Sheet,
+            line,
+        }
     }
 }
 

@@ -46,7 +46,11 @@ impl<'a> Fields<'a> {
         ensures words { λ r. ⌜ words r ≡ parted 32 (now (text .entry)) ⌝ }
         ensures line { λ r. ⌜ r .line ≡ line ⌝ }
     {
-        Fields { rest: text, more: true, line }
+        Fields {
+            rest: text,
+            more: true,
+            line,
+        }
     }
 
     // The next field.

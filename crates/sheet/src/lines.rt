@@ -25,7 +25,10 @@ impl<'a> Lines<'a> {
         ensures rest { λ r. ⌜ r .rest .now ≡ now (text .entry) ⌝ }
         ensures read { λ r. ⌜ r .read ≡ 0 ⌝ }
     {
-        Lines { rest: text, read: 0 }
+        Lines {
+            rest: text,
+            read: 0,
+        }
     }
 
     // The fields of the next line, if it has its end.

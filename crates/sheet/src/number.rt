@@ -8,6 +8,7 @@ use super::fault::Fault;
 
 // The largest number of 32 bits, and its digits.
 const LARGEST: u64 = 0xffff_ffff;
+
 const MOST_DIGITS: usize = 10;
 
 // The number of 32 bits that `word` writes, for a word of line `line`.

@@ -43,7 +43,13 @@ fn settings(fields: &mut Fields) -> Result<Run, Fault>
         return Err(fields.fault());
     }
     fields.end()?;
-    Ok(Run { tickets, words, epoch, seed, cycles })
+    Ok(Run {
+        tickets,
+        words,
+        epoch,
+        seed,
+        cycles,
+    })
 }
 
 pub(crate) fn run(fields: &mut Fields) -> Result<Run, Fault>

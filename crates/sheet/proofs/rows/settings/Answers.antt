@@ -36,6 +36,7 @@ returns-in-Break-cycles c =
 
 -- the last number is read, and too large
 pub returns-then-cycles-gt-MOST-CYCLES : need.returns-then-cycles-gt-MOST-CYCLES
-returns-then-cycles-gt-MOST-CYCLES c =
-    (c .fault .ensures ∙ ap ill-formed (c .in-Continue-cycles .ensures tt .line ∙ c .in-Continue-seed .ensures tt .line ∙ c .in-Continue-epoch .ensures tt .line ∙ c .in-Continue-words .ensures tt .line ∙ c .in-Continue-tickets .ensures tt .line),
-     λ x fits p e. let same : c .in-Continue-cycles .cycles ≡ x .cycles = same-from-decimal _ _ (omega (arith, c .in-Continue-cycles .ensures tt .words .0)) (omega arith) (first-of (c .in-Continue-cycles .ensures tt .words .1) (after (c .in-Continue-seed .ensures tt .words .1) (after (c .in-Continue-epoch .ensures tt .words .1) (after (c .in-Continue-words .ensures tt .words .1) (after (c .in-Continue-tickets .ensures tt .words .1) (rest-of e)))))) in omega arith)
+returns-then-cycles-gt-MOST-CYCLES c = (
+  c .fault .ensures ∙ ap ill-formed (c .in-Continue-cycles .ensures tt .line ∙ c .in-Continue-seed .ensures tt .line ∙ c .in-Continue-epoch .ensures tt .line ∙ c .in-Continue-words .ensures tt .line ∙ c .in-Continue-tickets .ensures tt .line),
+  λ x fits p e. let same : c .in-Continue-cycles .cycles ≡ x .cycles = same-from-decimal _ _ (omega (arith, c .in-Continue-cycles .ensures tt .words .0)) (omega arith) (first-of (c .in-Continue-cycles .ensures tt .words .1) (after (c .in-Continue-seed .ensures tt .words .1) (after (c .in-Continue-epoch .ensures tt .words .1) (after (c .in-Continue-words .ensures tt .words .1) (after (c .in-Continue-tickets .ensures tt .words .1) (rest-of e)))))) in omega arith,
+)
