@@ -3,4 +3,4 @@ use Rattle.std.proofs.shelf.Lists.{nil-from-length}
 use Rattle.sheet.proofs.lines.Lines.end.Needs as need
 
 pub returns : need.returns
-returns c = nil-from-length _ (omega (arith, c .if-self-gt0 .left))
+returns c = nil-from-length _ (omega arith)
