@@ -55,7 +55,8 @@ looked-at W = 1
 looked-at N = 2
 looked-at S = 3
 
--- a flit leaves by its wish unless that is taken, and otherwise, or without a wish, by the first port of E, W, N, S that is not taken
+-- The flit leaves by its wish unless that is taken by a flit before it. Where the wish is taken, and where there is none,
+-- it leaves by the first port of E, W, N, S that no flit before it takes.
 pub record Leaves (taken : Port → Type 0) (wish : Option Port) (p : Port) : Type 0 where
   pub wished : (w : Port) → wish ≡ Some w → (taken w → ⊥) → p ≡ w
   pub free : ((w : Port) → wish ≡ Some w → taken w) → taken p → ⊥

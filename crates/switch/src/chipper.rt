@@ -46,12 +46,12 @@ impl Block {
     fn second_leads_to(self, port: Port) -> bool
         ensures { λ r. ⌜ r ≡ by-second self port ⌝ }
     {
-        match (self, port) {
-            (Block::Entry, Port::E | Port::W) => true,
-            (Block::NorthSouth, Port::S) => true,
-            (Block::EastWest, Port::W) => true,
-            _ => false,
-        }
+        matches!(
+            (self, port),
+            (Block::Entry, Port::E | Port::W)
+                | (Block::NorthSouth, Port::S)
+                | (Block::EastWest, Port::W)
+        )
     }
 
     // Whether a winner takes the second output.
