@@ -1,0 +1,6 @@
+mod Alone
+mod Laws
+mod Meaning
+mod Nearest
+mod Plugs
+mod Walks
