@@ -30,16 +30,14 @@ some-first f p e = go (first f) (pick f)
 
 module _ (k : ℕ) (few : k ≤ 64) (cs : List Cable) (ts : List (Option Slot)) (ds : List (List ℕ)) (w : Wired k (length cs) cs ts)
     (ways : (m : ℕ) → m < k → (j : ℕ) × Way (next-at ts) 0 j m)
-    (levels : (m n : ℕ) → m < k → n < k → Level (next-at ts) n m (distance-at ds m n)) where
+    (levels : (n : ℕ) → n < k → (m : ℕ) → m < k → Level (next-at ts) n m (distance-at ds m n)) where
   pub nearest : (m n : ℕ) → m < k → n < k → (distance-at ds m n < 64) × Nearest (next-at ts) n m (distance-at ds m n)
   nearest m n p q =
-      ⊎-elim (λ h. h) (λ h. let j = joined k few cs ts w ways m n p q in absurd (h .1 (j .0) (j .1))) (levels m n p q)
+      ⊎-elim (λ h. h) (λ h. let j = joined k few cs ts w ways m n p q in absurd (h .1 (j .0) (j .1))) (levels n q m p)
 
   pub nearing : Nearing k ts ds
   nearing m n l = ⊎-elim same other (cases-eq m n)
     where
-      d : Nearest (next-at ts) n m (distance-at ds m n)
-      d = nearest m n (l .0) (l .1) .1
       same : m ≡ n → cond (eqb m n) (eqb (distance-at ds m n) 0) (isSome (wish-at ts ds m n)) ≡ true
       same e = cond-true (eqb m n) _ _ (eq-eqb m n e) ∙ eq-eqb _ _ (omega (arith, nearest m n (l .0) (l .1) .1 .1 0 e))
       some : (j : ℕ) → Nearest (next-at ts) n m j → distance-at ds m n ≡ j → (m ≡ n → ⊥) → isSome (wish-at ts ds m n) ≡ true
@@ -51,8 +49,8 @@ module _ (k : ℕ) (few : k ≤ 64) (cs : List Cable) (ts : List (Option Slot)) 
       other : (m ≡ n → ⊥) → cond (eqb m n) (eqb (distance-at ds m n) 0) (isSome (wish-at ts ds m n)) ≡ true
       other e = cond-false (eqb m n) _ _ (ne-eqb m n e) ∙ some (distance-at ds m n) (nearest m n (l .0) (l .1) .1) refl e
 
-  pub means : (r : ℕ) → ((m n : ℕ) → m < k → n < k → distance-at ds m n ≤ r) →
-      ((m : ℕ) × (n : ℕ) × (m < k) × (n < k) × (distance-at ds m n ≡ r)) → Means k cs (cabled-plan k ts ds r)
+  pub means : (r : ℕ) → ((n : ℕ) → n < k → (m : ℕ) → m < k → distance-at ds m n ≤ r) →
+      ((n : ℕ) × (n < k) × ((m : ℕ) × (m < k) × (distance-at ds m n ≡ r))) → Means k cs (cabled-plan k ts ds r)
   means r within met = record {
     nodes = refl;
     plugged = λ s t j. far-in k ts ds r s (there k few cs ts w t s (return cs (length cs) s t j)) ∙ led k few cs ts w s t j;
@@ -60,7 +58,7 @@ module _ (k : ℕ) (few : k ≤ 64) (cs : List Cable) (ts : List (Option Slot)) 
         ⊎-elim (λ l. far-in k ts ds r s l ∙ ⊎-elim (λ e. e) (λ j. absurd (h (far-at ts s) j)) (ends k few cs ts w s l)) (λ l. cond-false (ltb (s .node) k) _ _ (le-ltb _ _ l))
         (cases-lt (s .node) k);
     distance = λ m n p q. subst (Least cs m n) (sym (distance-in k ts ds r m n p q)) (least k few cs ts w m n (distance-at ds m n) p (nearest m n p q .1));
-    within = λ m n p q. omega (arith, distance-in k ts ds r m n p q, within m n p q);
-    met = (met .0, met .1, met .2, met .3, distance-in k ts ds r (met .0) (met .1) (met .2) (met .3) ∙ met .4);
+    within = λ m n p q. omega (arith, distance-in k ts ds r m n p q, within n q m p);
+    met = let m = met .2 in (m .0, met .0, m .1, met .1, distance-in k ts ds r (m .0) (met .0) (m .1) (met .1) ∙ m .2);
     wish = wished k ts ds r (paired k few cs ts w) nearing;
   }

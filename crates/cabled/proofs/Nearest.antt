@@ -121,14 +121,15 @@ module _ (next : ℕ → Port → ℕ) (t : ℕ) where
       stays u q e = ⊎-elim (λ a. inl (omega (arith, a .0), a .1)) (λ a. absurd (e (a .0))) (found u q)
 
       -- one round more
-      pub round : (u : ℕ) → u < n → Found next t (l + 1) u (again next f l u)
-      round u q =
-          cond-both (eqb (f u) 64 && any (λ p. eqb (f (next u p)) l)) (l + 1) (f u) (Found next t (l + 1) u)
+      pub round : (u d : ℕ) → u < n → d ≡ again next f l u → Found next t (l + 1) u d
+      round u d q same =
+          subst (Found next t (l + 1) u) (sym same)
+          (cond-both (eqb (f u) 64 && any (λ p. eqb (f (next u p)) l)) (l + 1) (f u) (Found next t (l + 1) u)
           (λ e.
           let h = and-parts (eqb (f u) 64) (any (λ p. eqb (f (next u p)) l)) e in
           let s = any-some (λ p. eqb (f (next u p)) l) (h .1) in
           beside u (s .0) q (eqb-true _ _ (h .0)) (eqb-true _ _ (s .1)))
-          (λ e. ⊎-elim (λ a. apart u q a (λ p g. both-ways _ e (and-from _ _ (eq-eqb _ _ a) (some-any (λ r. eqb (f (next u r)) l) p (eq-eqb _ _ g))))) (λ a. stays u q a) (cases-eq (f u) 64))
+          (λ e. ⊎-elim (λ a. apart u q a (λ p g. both-ways _ e (and-from _ _ (eq-eqb _ _ a) (some-any (λ r. eqb (f (next u r)) l) p (eq-eqb _ _ g))))) (λ a. stays u q a) (cases-eq (f u) 64)))
 
     module _ (found : (u : ℕ) → u < n → Found next t 63 u (f u)) where
       -- from a level a port leads one down

@@ -91,4 +91,4 @@ pub data Cabling {A : Type 0} (plan : A → Plan) (k : ℕ) (cs : List Cable) (b
   unfair : (Fair k → ⊥) → Cabling plan k cs before before (refused 12 [])
   bad : Fair k → (i : ℕ) → i < length cs → All-good k cs i → (Good k cs i → ⊥) → Cabling plan k cs before before (refused 13 (i ∷ []))
   unreached : Fair k → All-good k cs (length cs) → (n : ℕ) → n < k → Cut-off cs n → Cabling plan k cs before before (refused 14 (n ∷ []))
-  cabled : {after : A} → Fair k → All-good k cs (length cs) → ((n : ℕ) → n < k → (j : ℕ) × Walk cs j 0 n) → Means k cs (plan after) → Cabling plan k cs before after (granted tt)
+  cabled : {after : A} → Fair k → All-good k cs (length cs) → ((n : ℕ) → n < k → Cut-off cs n → ⊥) → Means k cs (plan after) → Cabling plan k cs before after (granted tt)

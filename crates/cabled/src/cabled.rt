@@ -123,3 +123,87 @@ pub impl Layout for Cabled as CabledLayout {
         usize::from(self.reach)
     }
 }
+
+#[cfg(test)]
+mod tests {
+    use super::*;
+    use fabric::parts::PortDebug;
+    use fabric::parts::PortPartialEq;
+    use fabric::parts::SlotDebug;
+    use fabric::parts::SlotPartialEq;
+    use fabric::refusal::RefusalDebug;
+    use fabric::refusal::RefusalPartialEq;
+    use std::test::*;
+
+    fn cable(a: usize, p: Port, b: usize, q: Port) -> Cable {
+        Cable {
+            one: Slot { node: a, port: p },
+            other: Slot { node: b, port: q },
+        }
+    }
+
+    fn round_trip() -> [Cable; NODES] {
+        let mut cables = [cable(0, Port::E, 0, Port::W); NODES];
+        for node in 0..NODES {
+            cables[node] = cable(node, Port::E, (node + 1) % NODES, Port::W);
+        }
+        cables
+    }
+
+    #[test]
+    fn ring() -> Result<(), Fail> {
+        let mut layout = Cabled::new();
+        check_eq(layout.cable(NODES, &round_trip()), Ok(()))?;
+        check_eq(layout.reach(), 32)?;
+        check_eq(layout.distance(60, 3), 7)?;
+        check_eq(layout.wish(0, 32), Some(Port::E))?;
+        check_eq(layout.wish(0, 33), Some(Port::W))
+    }
+
+    #[test]
+    fn star() -> Result<(), Fail> {
+        let cables = [
+            cable(0, Port::N, 1, Port::N),
+            cable(0, Port::E, 2, Port::N),
+            cable(0, Port::S, 3, Port::N),
+            cable(0, Port::W, 4, Port::N),
+        ];
+        let mut layout = Cabled::new();
+        check_eq(layout.cable(5, &cables), Ok(()))?;
+        check_eq(layout.reach(), 2)?;
+        check_eq(layout.distance(1, 4), 2)?;
+        check_eq(layout.wish(0, 3), Some(Port::S))
+    }
+
+    // Two cables between the same nodes, and one between two ports of a node.
+    #[test]
+    fn doubled() -> Result<(), Fail> {
+        let cables = [
+            cable(0, Port::N, 0, Port::S),
+            cable(0, Port::W, 1, Port::W),
+            cable(0, Port::E, 1, Port::S),
+        ];
+        let mut layout = Cabled::new();
+        check_eq(layout.cable(2, &cables), Ok(()))?;
+        let south = Slot {
+            node: 0,
+            port: Port::S,
+        };
+        check_eq(layout.far_end(0, Port::N), south)?;
+        check_eq(layout.wish(0, 1), Some(Port::E))?;
+        check_eq(layout.wish(1, 0), Some(Port::W))
+    }
+
+    #[test]
+    fn refused() -> Result<(), Fail> {
+        let pair = [cable(0, Port::E, 1, Port::W)];
+        let looped = [cable(0, Port::E, 1, Port::W), cable(1, Port::N, 1, Port::N)];
+        let mut layout = Cabled::new();
+        check_eq(layout.cable(2, &pair), Ok(()))?;
+        check_eq(layout.cable(65, &looped), Err(Refusal::Nodes))?;
+        check_eq(layout.cable(3, &looped), Err(Refusal::Cable(1)))?;
+        check_eq(layout.cable(3, &pair), Err(Refusal::Unreached(2)))?;
+        check_eq(layout.nodes(), 2)?;
+        check_eq(layout.distance(0, 1), 1)
+    }
+}

@@ -115,9 +115,9 @@ pub(crate) struct Spans {
 
 pub(crate) fn measure(ends: &Ends, nodes: usize) -> Spans
     requires { ⌜ 0 < nodes ⌝ ∗ ⌜ nodes ≤ 64 ⌝ ∗ ⌜ Inside nodes (now ends) ⌝ }
-    ensures exact { λ r. ⌜ ((m n : ℕ) → m < nodes → n < nodes → Level (next-at (now (ends .entry))) n m (distance-at (r .distances) m n)) ⌝ }
-    ensures within { λ r. ⌜ ((m n : ℕ) → m < nodes → n < nodes → distance-at (r .distances) m n ≤ r .reach) ⌝ }
-    ensures met { λ r. ⌜ ((m : ℕ) × (n : ℕ) × (m < nodes) × (n < nodes) × (distance-at (r .distances) m n ≡ r .reach)) ⌝ }
+    ensures exact { λ r. ⌜ ((n : ℕ) → n < nodes → (m : ℕ) → m < nodes → Level (next-at (now (ends .entry))) n m (distance-at (r .distances) m n)) ⌝ }
+    ensures within { λ r. ⌜ ((n : ℕ) → n < nodes → (m : ℕ) → m < nodes → distance-at (r .distances) m n ≤ r .reach) ⌝ }
+    ensures met { λ r. ⌜ ((n : ℕ) × (n < nodes) × ((m : ℕ) × (m < nodes) × (distance-at (r .distances) m n ≡ r .reach))) ⌝ }
 {
     let mut distances = [[0; NODES]; NODES];
     let mut reach = 0;

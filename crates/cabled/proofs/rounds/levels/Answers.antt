@@ -1,5 +1,4 @@
-use Prim.Native.Nat.{_+_}
-use mathlib.Core.Path.{_≡_, sym, subst}
+use mathlib.Core.Path.{_≡_, subst}
 use native.Mathlib.Omega.{arith}
 use lib.ListN.{getD}
 use Rattle.cabled.specs.Levels.{Found}
@@ -12,10 +11,8 @@ loop-level-holds c = λ u l. start (next-at (c .args .ends .now)) (c .args .to) 
 
 pub loop-level-again : need.loop-level-again
 loop-level-again c = λ u l.
-    let next = next-at (c .args .ends .now) in
-    let k = c .loop-level .level in
-    subst (Found next (c .args .to) (k + 1) u) (sym (c .round-row .ensures u l))
-    (round next (c .args .to) (c .args .nodes) (c .pre .1 .0) (c .pre .1 .1) (λ v. getD (c .loop-level .row) v 0) k (omega arith) (c .loop-level .inv) u l)
+    round (next-at (c .args .ends .now)) (c .args .to) (c .args .nodes) (c .pre .1 .0) (c .pre .1 .1) (λ v. getD (c .loop-level .row) v 0) (c .loop-level .level)
+    (omega arith) (c .loop-level .inv) u (getD (c .round-row .result) u 0) l (c .round-row .ensures u l)
 
 pub returns : need.returns
 returns c =

@@ -8,7 +8,7 @@ use Rattle.cabled.proofs.rounds.measure.Given as given
 abbrev pub Inv-loop-to : given.InvT-loop-to
 Inv-loop-to l =
     (length (l .distances) ≡ 64)
-    × ((m n : ℕ) → m < l .nodes → n < l .to → Level (next-at (l .ends)) n m (distance-at (l .distances) m n))
-    × ((m n : ℕ) → m < l .nodes → n < l .to → distance-at (l .distances) m n ≤ l .reach)
+    × ((n : ℕ) → n < l .to → (m : ℕ) → m < l .nodes → Level (next-at (l .ends)) n m (distance-at (l .distances) m n))
+    × ((n : ℕ) → n < l .to → (m : ℕ) → m < l .nodes → distance-at (l .distances) m n ≤ l .reach)
     × (l .to ≡ 0 → l .reach ≡ 0)
-    × (0 < l .to → (m : ℕ) × (n : ℕ) × (m < l .nodes) × (n < l .to) × (distance-at (l .distances) m n ≡ l .reach))
+    × (0 < l .to → (n : ℕ) × (n < l .to) × ((m : ℕ) × (m < l .nodes) × (distance-at (l .distances) m n ≡ l .reach)))

@@ -38,11 +38,11 @@ ghost-self c =
     let w = c .in-Continue-ends .ensures tt in
     let spans = c .measure-reach .ensures in
     let met = spans .met in (
-      (omega arith, omega arith, omega (arith, met .4, nearest k (omega arith) cs ts ds w (c .in-rest .ensures tt) (spans .exact) (met .0) (met .1) (met .2) (met .3) .0)),
+      (omega arith, omega arith, omega (arith, met .2 .2, nearest k (omega arith) cs ts ds w (c .in-rest .ensures tt) (spans .exact) (met .2 .0) (met .0) (met .2 .1) (met .1) .0)),
       (
         paired k (omega arith) cs ts w,
         (
-          (λ m n l. spans .within m n (l .0) (l .1)),
+          (λ m n l. spans .within n (l .1) m (l .0)),
           (nearing k (omega arith) cs ts ds w (c .in-rest .ensures tt) (spans .exact), tt),
         ),
       ),
@@ -56,5 +56,5 @@ returns c =
     let w = c .in-Continue-ends .ensures tt in
     let ways = c .in-rest .ensures tt in
     let spans = c .measure-reach .ensures in
-    cabled (omega arith, omega arith) (w .good) (λ n l. reverse (walk k (omega arith) cs ts w 0 (ways n l .0) n l (ways n l .1) .2))
+    cabled (omega arith, omega arith) (w .good) (λ n l cut. let r = reverse (walk k (omega arith) cs ts w 0 (ways n l .0) n l (ways n l .1) .2) in cut (r .0) (r .1))
     (means k (omega arith) cs ts (c .measure-reach .result .distances) w ways (spans .exact) (c .measure-reach .result .reach) (spans .within) (spans .met))
