@@ -40,12 +40,14 @@ module _ (k : ℕ) (few : k ≤ 64) (cs : List Cable) (ts : List (Option Slot)) 
     where
       same : m ≡ n → cond (eqb m n) (eqb (distance-at ds m n) 0) (isSome (wish-at ts ds m n)) ≡ true
       same e = cond-true (eqb m n) _ _ (eq-eqb m n e) ∙ eq-eqb _ _ (omega (arith, nearest m n (l .0) (l .1) .1 .1 0 e))
+
       some : (j : ℕ) → Nearest (next-at ts) n m j → distance-at ds m n ≡ j → (m ≡ n → ⊥) → isSome (wish-at ts ds m n) ≡ true
       some zero h e f = absurd (f (h .0))
       some (suc j) h e f =
           let p = h .0 .0 in
           let b = nearest (next-at ts m p) n (paired k few cs ts w (record { node = m; port = p }) (l .0) .0) (l .1) .1 in
           some-first (leads ts ds m n) p (eq-eqb _ _ (omega (arith, b .1 j (h .0 .1), h .1 (suc (distance-at ds (next-at ts m p) n)) (p, b .0))))
+
       other : (m ≡ n → ⊥) → cond (eqb m n) (eqb (distance-at ds m n) 0) (isSome (wish-at ts ds m n)) ≡ true
       other e = cond-false (eqb m n) _ _ (ne-eqb m n e) ∙ some (distance-at ds m n) (nearest m n (l .0) (l .1) .1) refl e
 

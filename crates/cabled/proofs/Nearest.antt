@@ -79,6 +79,7 @@ module _ (next : ℕ → Port → ℕ) (t : ℕ) where
       none : (u ≡ t → ⊥) → (k : ℕ) → Way next t k u → 0 < k
       none e zero w = absurd (e w)
       none e (suc k) w = omega arith
+
       go : (u ≡ t) ⊎ (u ≡ t → ⊥) → Found next t 0 u (getD (set (replicate 64 64) t 0) u 0)
       go (inl e) =
           let z : getD (set (replicate 64 64) t 0) u 0 ≡ 0 =
@@ -111,6 +112,7 @@ module _ (next : ℕ → Port → ℕ) (t : ℕ) where
                   let m = a .1 (suc (f (next u p))) (p, b .1 .0) in
                   none p (omega (arith, b .1 .1 k w, m))
               step k p s w (inr b) = omega (arith, b .1 k w)
+
               longer : (k : ℕ) → Way next t k u → l + 1 < k
               longer zero w = omega (arith, a .1 0 w)
               longer (suc k) w =

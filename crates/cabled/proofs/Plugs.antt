@@ -19,7 +19,7 @@ use Rattle.fabric.specs.declared.parts.Port.the-variants.{N, E, S, W}
 use Rattle.fabric.specs.declared.parts.Slot.{Slot}
 use Rattle.fabric.specs.Ports.{place-of}
 use Rattle.cabled.specs.Cables.{cable-at, Runs, Joined, Good, All-good}
-use Rattle.cabled.specs.Tables.{index, end-at, far-at, Inside, Paired, Wired, Free}
+use Rattle.cabled.specs.Tables.{index, end-at, far-at, Inside, Paired, Wired, Free, Fits, plugged}
 
 port-at : ℕ → Port
 port-at n = cond (eqb n 0) N (cond (eqb n 1) E (cond (eqb n 2) S W))
@@ -76,17 +76,15 @@ wired-none k cs = record {
   only = λ s t l e. absurd (none-some _ t (getD-replicate 256 (index s) None None (index-lt s l)) e);
 }
 
--- both ports of a good cable are free
-pub good-free : (k i : ℕ) → k ≤ 64 → (cs : List Cable) (ts : List (Option Slot)) → Wired k i cs ts → Good k cs i →
-    Free k ts (cable-at cs i .one) × Free k ts (cable-at cs i .other)
-good-free k i few cs ts w g = (free _ _ (inl (refl, refl)), free _ _ (inr (refl, refl)))
+-- a good cable fits
+pub good-fits : (k i : ℕ) → k ≤ 64 → (cs : List Cable) (ts : List (Option Slot)) → Wired k i cs ts → Good k cs i → Fits k ts (cable-at cs i)
+good-fits k i few cs ts w g = (g .two, free _ _ (inl (refl, refl)), free _ _ (inr (refl, refl)))
   where
     free : (s t : Slot) → Runs (cable-at cs i) s t → Free k ts s
     free s t r = let l = g .there s t r in (l, none-if (end-at ts s) (λ u e. g .fresh s t u r (w .only s u (omega arith) e)))
 
 -- one cable more
-module _ (k i : ℕ) (few : k ≤ 64) (cs : List Cable) (ts : List (Option Slot)) (long : length ts ≡ 256) (w : Wired k i cs ts)
-    (fa : Free k ts (cable-at cs i .one)) (fb : Free k ts (cable-at cs i .other)) (ne : cable-at cs i .one ≡ cable-at cs i .other → ⊥) where
+module _ (k i : ℕ) (few : k ≤ 64) (cs : List Cable) (ts : List (Option Slot)) (long : length ts ≡ 256) (w : Wired k i cs ts) (fits : Fits k ts (cable-at cs i)) where
   abbrev a : Slot
   a = cable-at cs i .one
 
@@ -94,15 +92,15 @@ module _ (k i : ℕ) (few : k ≤ 64) (cs : List Cable) (ts : List (Option Slot)
   b = cable-at cs i .other
 
   abbrev after : List (Option Slot)
-  after = set (set ts (index a) (Some b)) (index b) (Some a)
+  after = plugged ts (cable-at cs i)
 
   at-a : end-at after a ≡ Some b
   at-a =
-      getD-set-other (set ts (index a) (Some b)) (index b) (index a) (Some a) None (λ e. ne (index-inj a b e))
-      ∙ getD-set-same ts (index a) (Some b) None (omega (arith, index-lt a (omega arith)))
+      getD-set-other (set ts (index a) (Some b)) (index b) (index a) (Some a) None (λ e. fits .0 (index-inj a b e))
+      ∙ getD-set-same ts (index a) (Some b) None (omega (arith, index-lt a (omega (arith, fits .1 .0))))
 
   at-b : end-at after b ≡ Some a
-  at-b = getD-set-same (set ts (index a) (Some b)) (index b) (Some a) None (omega (arith, index-lt b (omega arith), length-set ts (index a) (Some b)))
+  at-b = getD-set-same (set ts (index a) (Some b)) (index b) (Some a) None (omega (arith, index-lt b (omega (arith, fits .2 .0)), length-set ts (index a) (Some b)))
 
   at-rest : (s : Slot) → (s ≡ a → ⊥) → (s ≡ b → ⊥) → end-at after s ≡ end-at ts s
   at-rest s p q =
@@ -111,8 +109,8 @@ module _ (k i : ℕ) (few : k ≤ 64) (cs : List Cable) (ts : List (Option Slot)
 
   -- an end of the new cable is free
   free : (s t : Slot) → Runs (cable-at cs i) s t → Free k ts s
-  free s t (inl h) = subst (Free k ts) (h .0) fa
-  free s t (inr h) = subst (Free k ts) (h .0) fb
+  free s t (inl h) = subst (Free k ts) (h .0) (fits .1)
+  free s t (inr h) = subst (Free k ts) (h .0) (fits .2)
 
   new : (s t : Slot) → Runs (cable-at cs i) s t → end-at after s ≡ Some t
   new s t (inl h) = ap (end-at after) (sym (h .0)) ∙ at-a ∙ ap Some (h .1)
@@ -120,7 +118,7 @@ module _ (k i : ℕ) (few : k ≤ 64) (cs : List Cable) (ts : List (Option Slot)
 
   old : (s t : Slot) → end-at ts s ≡ Some t → end-at after s ≡ Some t
   old s t e =
-      at-rest s (λ p. none-some (end-at ts s) t (ap (end-at ts) p ∙ fa .1) e) (λ p. none-some (end-at ts s) t (ap (end-at ts) p ∙ fb .1) e) ∙ e
+      at-rest s (λ p. none-some (end-at ts s) t (ap (end-at ts) p ∙ fits .1 .1) e) (λ p. none-some (end-at ts s) t (ap (end-at ts) p ∙ fits .2 .1) e) ∙ e
 
   only-more : (s t : Slot) → s .node < 64 → end-at after s ≡ Some t → Joined cs (i + 1) s t
   only-more s t l e = go (cases-slot s a) (cases-slot s b)
@@ -134,7 +132,7 @@ module _ (k i : ℕ) (few : k ≤ 64) (cs : List Cable) (ts : List (Option Slot)
   wired-more = record {
     good = below-more (Good k cs) i (w .good) (record {
       there = λ s t r. free s t r .0;
-      two = ne;
+      two = fits .0;
       fresh = λ s t u r j. none-some (end-at ts s) u (free s t r .1) (w .has s u j);
     });
     has = λ s t j.

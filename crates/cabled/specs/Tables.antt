@@ -4,7 +4,7 @@ use mathlib.Core.Path.{_≡_}
 use mathlib.Core.Bool.{Bool, true, cond, _&&_}
 use mathlib.Core.List.{List, []}
 use lib.Dec.{ltb, eqb}
-use lib.ListN.{getD}
+use lib.ListN.{getD, set}
 use Rattle.std.specs.Options.{isSome, valueOr}
 use Rattle.std.specs.declared.option.Option.{Option}
 use Rattle.std.specs.declared.option.Option.the-variants.{Some, None}
@@ -80,6 +80,14 @@ pub record Wired (k n : ℕ) (cs : List Cable) (ts : List (Option Slot)) : Type 
   pub has : (s t : Slot) → Joined cs n s t → end-at ts s ≡ Some t
   pub only : (s t : Slot) → s .node < 64 → end-at ts s ≡ Some t → Joined cs n s t
 
--- a port of the k nodes without a cable
+-- a port of the k nodes is without a cable
 abbrev pub Free : ℕ → List (Option Slot) → Slot → Type 0
 Free k ts s = (s .node < k) × (end-at ts s ≡ None)
+
+-- the cable has two ends, both at free ports
+abbrev pub Fits : ℕ → List (Option Slot) → Cable → Type 0
+Fits k ts c = (c .one ≡ c .other → ⊥) × Free k ts (c .one) × Free k ts (c .other)
+
+-- one cable more
+abbrev pub plugged : List (Option Slot) → Cable → List (Option Slot)
+plugged ts c = set (set ts (index (c .one)) (Some (c .other))) (index (c .other)) (Some (c .one))

@@ -1,13 +1,11 @@
 // The table of the cables' ends.
 ghost use Prim.Native.Nat.{ℕ, _<_, _≤_};
 ghost use mathlib.Core.Path.{_≡_};
-ghost use mathlib.Core.List.{List};
-ghost use lib.ListN.{length, set};
+ghost use lib.ListN.{length};
 ghost use Rattle.std.specs.Orderings.{Decides};
-ghost use Rattle.std.specs.declared.option.Option.the-variants.{Some};
 ghost use Rattle.std.specs.declared.result.Result.the-variants.{Ok, Err};
 ghost use Rattle.cabled.specs.Cables.{Good, All-good};
-ghost use Rattle.cabled.specs.Tables.{index, far-at, Free, Wired};
+ghost use Rattle.cabled.specs.Tables.{index, far-at, Free, Fits, plugged, Wired};
 use fabric::parts::Cable;
 use fabric::parts::Slot;
 use fabric::parts::SlotPartialEq;
@@ -41,25 +39,33 @@ fn is_free(ends: &Ends, nodes: usize, slot: Slot) -> bool
     slot.node < nodes && ends[place(slot)].is_none()
 }
 
-fn plug(ends: &mut Ends, one: Slot, other: Slot)
-    requires { ⌜ one .node < 64 ⌝ ∗ ⌜ other .node < 64 ⌝ }
-    ensures { λ _. ⌜ now (ends .exit) ≡ set (set (now (ends .entry)) (index one) (Some other)) (index other) (Some one) ⌝ }
+// Whether the cable has two ends, both at free ports.
+fn can_plug(ends: &Ends, nodes: usize, cable: Cable) -> bool
+    requires { ⌜ nodes ≤ 64 ⌝ }
+    ensures { λ r. ⌜ Decides r (Fits nodes (now (ends .entry)) cable) ⌝ }
 {
-    ends[place(one)] = Some(other);
-    ends[place(other)] = Some(one);
+    cable.one != cable.other && is_free(ends, nodes, cable.one) && is_free(ends, nodes, cable.other)
 }
 
-// The ends of the cables, or the place of the first cable that does not fit.
+fn plug(ends: &mut Ends, cable: Cable)
+    requires { ⌜ cable .one .node < 64 ⌝ ∗ ⌜ cable .other .node < 64 ⌝ }
+    ensures { λ _. ⌜ now (ends .exit) ≡ plugged (now (ends .entry)) cable ⌝ }
+{
+    ends[place(cable.one)] = Some(cable.other);
+    ends[place(cable.other)] = Some(cable.one);
+}
+
+// The ends of all the cables, unless one does not fit.
 pub(crate) fn wired(nodes: usize, cables: &[Cable]) -> Result<Ends, Refusal>
     requires { ⌜ nodes ≤ 64 ⌝ }
     ensures { λ r. ⌜ elim r [ Ok ts ↦ Wired nodes (length (now (cables .entry))) (now (cables .entry)) ts | Err e ↦ (i : ℕ) × (e ≡ Refusal.Cable i) × (i < length (now (cables .entry))) × All-good nodes (now (cables .entry)) i × (Good nodes (now (cables .entry)) i → ⊥) ] ⌝ }
 {
     let mut ends = [None; SLOTS];
-    for (i, &Cable { one, other }) in cables.iter().enumerate() {
-        if one == other || !is_free(&ends, nodes, one) || !is_free(&ends, nodes, other) {
+    for (i, &cable) in cables.iter().enumerate() {
+        if !can_plug(&ends, nodes, cable) {
             return Err(Refusal::Cable(i));
         }
-        plug(&mut ends, one, other);
+        plug(&mut ends, cable);
     }
     Ok(ends)
 }
