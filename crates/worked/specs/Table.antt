@@ -5,12 +5,16 @@ use mathlib.Core.Bool.{Bool, true}
 use mathlib.Core.List.{List, [], _∷_}
 use Rattle.std.specs.declared.option.Option.{Option}
 use Rattle.std.specs.declared.option.Option.the-variants.{Some, None}
+use Rattle.fabric.specs.declared.parts.Cable.{Cable}
 use Rattle.fabric.specs.declared.parts.Port.{Port}
 use Rattle.fabric.specs.declared.parts.Port.the-variants.{N, E, S, W}
 use Rattle.fabric.specs.declared.parts.Slot.{Slot}
 use Rattle.fabric.specs.declared.parts.Flit.{Flit}
 use Rattle.fabric.specs.Layouts.{Plan}
 use Rattle.fabric.specs.Meshes.{mesh-plan}
+use Rattle.fabric.specs.Verdicts.{Verdict}
+use Rattle.fabric.specs.Verdicts.Verdict.{refused}
+use Rattle.cabled.specs.Cables.{Cabling}
 use Rattle.switch.specs.Switches.{Handing, handed}
 use Rattle.switch.specs.Chippers.{chipper-turn}
 use Rattle.switch.specs.Blesses.{bless-turn}
@@ -21,15 +25,15 @@ pub data Answer : Type 0 where
   slot : Slot → Answer
   ports : List Port → Answer
 
-pub record Row : Type 0 where
-  pub defined : Answer
-  pub worked : Answer
+pub data Row : Type 0 where
+  is : Answer → Answer → Row
+  -- cabling so many nodes has this outcome
+  cabling : ℕ → List Cable → Verdict Unit → Row
 
+-- an outcome is right if it is possible, and no other is
 abbrev pub Right : Row → Type 0
-Right r = r .defined ≡ r .worked
-
-abbrev is : Answer → Answer → Row
-is a b = record { defined = a; worked = b }
+Right (is a b) = a ≡ b
+Right (cabling k cs v) = (p : Plan) → Cabling (λ q. q) k cs p p v × ((q : Plan) (u : Verdict Unit) → Cabling (λ r. r) k cs p q u → u ≡ v)
 
 -- three columns and two rows
 abbrev six : Plan
@@ -51,7 +55,9 @@ three = handed (flit 5 3 ∷ None ∷ flit 2 3 ∷ flit 9 1 ∷ []) (Some E ∷ 
 
 abbrev pub table : List Row
 table =
-    is (number (six .distance 0 5)) (number 3)
+    -- 0 E 1 W leaves node 2 without a way
+    cabling 3 (record { one = record { node = 0; port = E }; other = record { node = 1; port = W } } ∷ []) (refused 14 (2 ∷ []))
+    ∷ is (number (six .distance 0 5)) (number 3)
     ∷ is (port (six .wish 0 5)) (port (Some E))
     ∷ is (number (six .distance 2 5)) (number 1)
     ∷ is (port (six .wish 2 5)) (port (Some S))

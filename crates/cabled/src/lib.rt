@@ -1,0 +1,4 @@
+// Layouts by cables.
+pub mod cabled;
+mod rounds;
+mod wiring;
