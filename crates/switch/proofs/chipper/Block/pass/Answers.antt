@@ -1,6 +1,6 @@
 use mathlib.Core.Path.{ap}
 use mathlib.Core.Bool.{cond}
-use Rattle.switch.proofs.Woven.{block-lawful}
+use Rattle.switch.proofs.Blocks.{block-lawful}
 use Rattle.switch.proofs.chipper.Block.pass.Needs as need
 
 pub returns-then-crosses : need.returns-then-crosses

@@ -3,14 +3,14 @@ use Rattle.switch.specs.declared.chipper.Lane.{Lane}
 use Rattle.switch.specs.declared.chipper.Block.the-variants.{Entry}
 use Rattle.switch.specs.Switches.{handed}
 use Rattle.switch.specs.Chippers.{draw, passed, Block-law}
-use Rattle.switch.proofs.Woven.{woven}
+use Rattle.switch.proofs.Blocks.{wired}
 use Rattle.switch.proofs.chipper.ChipperSwitch.route.Needs as need
 
 pub returns : need.returns
 returns c =
     let h = handed (c .args .places) (c .args .wishes) (c .args .golden) (c .args .draws) in
     record {
-      0 = woven h (c .pass .result) (c .pass-2 .result) (c .pass-3 .result) (c .pass-4 .result)
+      0 = wired h (c .pass .result) (c .pass-2 .result) (c .pass-3 .result) (c .pass-4 .result)
           (c .pass .ensures .0 ∙ ap₂ (passed Entry (draw h 0)) (c .new-n .ensures) (c .new-e .ensures))
           (c .pass-2 .ensures .0 ∙ ap₂ (passed Entry (draw h 1)) (c .new-s .ensures) (c .new-w .ensures))
           (c .pass-3 .ensures .0) (c .pass-4 .ensures .0);

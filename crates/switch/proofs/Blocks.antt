@@ -96,13 +96,13 @@ module _ (h : Handing) where
   joined a b false true = refl
   joined a b false false = refl
 
-  pub woven : (a b c d : Lane × Lane)
+  pub wired : (a b c d : Lane × Lane)
       → a ≡ passed Entry (draw h 0) (lane h N) (lane h E)
       → b ≡ passed Entry (draw h 1) (lane h S) (lane h W)
       → c ≡ passed NorthSouth (draw h 2) (a .0) (b .0)
       → d ≡ passed EastWest (draw h 3) (a .1) (b .1)
       → (c .0 .flit ∷ d .0 .flit ∷ c .1 .flit ∷ d .1 .flit ∷ []) ≡ turned (chipper-turn h) (h .places)
-  woven a b c d ea eb ec ed =
+  wired a b c d ea eb ec ed =
       let a′ = ea ∙ sent _ N E in
       let b′ = eb ∙ sent _ S W in
       let c′ = (rw (a′, b′) at ec) ∙ sent _ (halfway h .from N) (halfway h .from S) in
