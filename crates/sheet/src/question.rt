@@ -1,21 +1,51 @@
-// A question: a layout and a run, asked for their limits.
-ghost use Prim.Native.Nat.{_≤_};
+// The reader of questions: a layout and a run, asked for their limits.
+ghost use Prim.Native.Nat.{_≤_, _^_};
 ghost use mathlib.Core.Path.{_≡_};
 ghost use lib.ListN.{length};
 ghost use Rattle.std.specs.Results.{Cases};
 ghost use Rattle.sheet.specs.Faults.{Faulty};
 ghost use Rattle.sheet.specs.Texts.{text};
-ghost use Rattle.sheet.specs.Questions.{lines as written-lines, Formed};
+ghost use Rattle.sheet.specs.Questions.{asked, lines as written-lines, Formed};
+ghost use Rattle.sheet.specs.Reading.{Counted, Wired};
 use super::fault::Fault;
 use super::lines::Lines;
+use super::parts::MOST_CABLES;
 use super::parts::Question;
+use super::parts::Shape;
 use super::rows;
+use fabric::parts::Cable;
+use fabric::parts::Port;
+use fabric::parts::Slot;
 
 const MOST_BYTES: usize = 65536;
 
-// Reads `mesh W H` and `run T M L seed cycles`, and nothing else.
+// How many cables follow: a mesh has none, and no line that says so.
+fn count(lines: &mut Lines, shape: Shape) -> Result<usize, Fault>
+    ensures { λ r. ⌜ Counted shape (now (lines .entry)) (now (lines .exit)) r ⌝ }
+{
+    match shape {
+        Shape::Mesh { .. } => Ok(0),
+        Shape::Cabled { .. } => rows::cables(&mut lines.next()?),
+    }
+}
+
+// The cables of the next `count` lines.
+fn cables(lines: &mut Lines, count: usize) -> Result<[Cable; MOST_CABLES], Fault>
+    requires { ⌜ count ≤ 128 ⌝ }
+    ensures { λ r. ⌜ Wired count (now (lines .entry)) (now (lines .exit)) r ⌝ }
+{
+    let slot = Slot { node: 0, port: Port::N };
+    let mut cables = [Cable { one: slot, other: slot }; MOST_CABLES];
+    for i in 0..count {
+        cables[i] = rows::cable(&mut lines.next()?)?;
+    }
+    Ok(cables)
+}
+
+// Reads `mesh W H` or `cabled N`, then `run T M L seed cycles`, and for a cabled layout
+// `cables K` and K lines `node PORT node PORT`; nothing else.
 pub fn read(bytes: &[u8]) -> Result<Question, Fault>
-    ensures { λ r. ⌜ Cases r (λ q. (length (now (bytes .entry)) ≤ 65536) × Formed q × (now (bytes .entry) ≡ text (written-lines q))) (λ f. Faulty written-lines Formed Formed (now (bytes .entry)) f) ⌝ }
+    ensures { λ r. ⌜ Cases r (λ q. (length (now (bytes .entry)) ≤ 65536) × Formed 128 (asked q) × (now (bytes .entry) ≡ text (written-lines (asked q)))) (λ f. Faulty written-lines (Formed 128) (Formed (2 ^ 32)) (now (bytes .entry)) f) ⌝ }
 {
     if bytes.len() > MOST_BYTES {
         return Err(Fault::too_long());
@@ -23,8 +53,10 @@ pub fn read(bytes: &[u8]) -> Result<Question, Fault>
     let mut lines = Lines::new(bytes);
     let shape = rows::shape(&mut lines.next()?)?;
     let run = rows::run(&mut lines.next()?)?;
+    let count = count(&mut lines, shape)?;
+    let cables = cables(&mut lines, count)?;
     lines.end()?;
-    Ok(Question { shape, run })
+    Ok(Question::new(shape, run, cables, count))
 }
 
 #[cfg(test)]
