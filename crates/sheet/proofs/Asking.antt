@@ -58,7 +58,8 @@ formed x y cs c h k b f u l s =
       numbers = (h, (k, all-append (All Fits) (count-lines x (length cs)) (map cable-line cs) (fits-count x (length cs) s) (all-map (All Fits) cable-line cs f)));
       cycles = b;
       uncabled = u;
-      cables = l }
+      cables = l;
+    }
 
 formed-bare : (x : Shape) → All Fits (shape-line x) → Formed 128 (ask x spare-run [])
 unfolding spare-run
@@ -105,8 +106,8 @@ module _ (bs rest : List ℕ) (j : ℕ) (f : Fault) (short : length bs ≤ 65536
     no-end y cs o G b =
         stop (lines (ask x y cs)) [] (ask x y cs) o G (sym (append-nil (lines (ask x y cs)))) (tidied (ask x y cs) (weaker (ask x y cs) G))
         (λ p F m.
-          let s = same-length x h y cs G p F (m .0) in
-          ⊎-elim (λ i. b (i .1)) (λ i. omega (arith, i .0)) (m .1))
+        let s = same-length x h y cs G p F (m .0) in
+        ⊎-elim (λ i. b (i .1)) (λ i. omega (arith, i .0)) (m .1))
 
 -- a cabled layout's count or cable is missing
 module _ (bs rest : List ℕ) (j : ℕ) (f : Fault) (short : length bs ≤ 65536) (m : ℕ) (h : All Fits (shape-line (Cabled m))) (y : Run) (k : All Fits (run-line y)) (c : Brief y) where
@@ -114,36 +115,45 @@ module _ (bs rest : List ℕ) (j : ℕ) (f : Fault) (short : length bs ≤ 65536
   no-count o at b =
       stop bs rest j f short at (shape-line (Cabled m) ∷ run-line y ∷ []) _ (ask (Cabled m) y []) o (formed (Cabled m) y [] 128 h k c tt tt (omega arith) (omega arith)) refl (tidy-shape (Cabled m) h, (tidy-run y k, tt))
       (λ p F n.
-        let e = n .0 0 (omega arith) in
-        ⊎-elim
-        (λ i. omega (arith, i .0))
-        (λ i. b (length (p .cables)) (i .1 .0) (alike-fits (Cabled m) h p F e m refl) tt (i .1 .1))
-        (subst (λ A. Next A 2 rest) (alike (Cabled m) h p F e) (n .1)))
+      let e = n .0 0 (omega arith) in
+      ⊎-elim
+      (λ i. omega (arith, i .0))
+      (λ i. b (length (p .cables)) (i .1 .0) (alike-fits (Cabled m) h p F e m refl) tt (i .1 .1))
+      (subst (λ A. Next A 2 rest) (alike (Cabled m) h p F e) (n .1)))
 
   over-count : (n : ℕ) (more : List ℕ) → Over (shape-line (Cabled m) ∷ run-line y ∷ []) bs 0 rest j → told f ≡ too-many (j + 1) → rest ≡ written (cables-line n) ++ more → All Fits (cables-line n) → 128 < n → Faulty lines (Formed 128) (Formed (2 ^ 32)) bs f
   over-count n more o at w g l =
       let A = shape-line (Cabled m) ∷ run-line y ∷ [] in
       let r = length-replicate n spare in
-      inr (short, (2, record {
-        before = along lines A bs rest j o (Formed 128) (ask (Cabled m) y []) _ (formed (Cabled m) y [] 128 h k c tt tt (omega arith) (omega arith)) refl;
-        ends = λ d.
-          let F = weaker (d .0) (d .1) in
-          let M = goes-on lines A bs rest j o (Formed 128) (λ q G. tidied q (weaker q G)) (tidy-shape (Cabled m) h, (tidy-run y k, tt)) d in
-          let e = M .0 0 (omega arith) in
-          let z = alike-fits (Cabled m) h (d .0) F e m refl in
-          ⊎-elim
-          (λ i. omega (arith, i .0))
-          (λ i.
-            let s = same-count n (length (d .0 .cables)) g z (cut (row (cables-line n)) (row (cables-line (length (d .0 .cables)))) more (i .1 .0) (tidy-count n g .ends) (tidy-count (length (d .0 .cables)) z .ends)
-                  (sym (append-assoc (row (cables-line n)) (10 ∷ []) more) ∙ sym w ∙ i .1 .1 ∙ append-assoc (row (cables-line (length (d .0 .cables)))) (10 ∷ []) (i .1 .0)) .0) in
-            omega (arith, d .1 .cables))
-          (subst (λ B. Next B 2 rest) (alike (Cabled m) h (d .0) F e) (M .1));
-        fault = inr (at ∙ ap (λ i. too-many (i + 1)) (let z : j ≡ 2 = omega (arith, o .read) in z),
-          along lines (A ++ cables-line n ∷ []) bs more (j + 1)
-            (over-both A (cables-line n ∷ []) bs rest more 0 j (j + 1) o (record { bytes = w ∙ ap (λ q. q ++ more) (sym (append-nil (written (cables-line n)))); read = refl }))
-            (Formed (2 ^ 32)) (ask (Cabled m) y (replicate n spare)) (map cable-line (replicate n spare))
-            (formed (Cabled m) y (replicate n spare) (2 ^ 32) h k c (spares n) tt (omega (arith, g .1 .0)) (omega (arith, g .1 .0)))
-            (ap (λ i. shape-line (Cabled m) ∷ run-line y ∷ cables-line i ∷ map cable-line (replicate n spare)) r)) }))
+      inr (
+        short,
+        (
+          2,
+          record {
+            before = along lines A bs rest j o (Formed 128) (ask (Cabled m) y []) _ (formed (Cabled m) y [] 128 h k c tt tt (omega arith) (omega arith)) refl;
+            ends = λ d.
+                let F = weaker (d .0) (d .1) in
+                let M = goes-on lines A bs rest j o (Formed 128) (λ q G. tidied q (weaker q G)) (tidy-shape (Cabled m) h, (tidy-run y k, tt)) d in
+                let e = M .0 0 (omega arith) in
+                let z = alike-fits (Cabled m) h (d .0) F e m refl in
+                ⊎-elim
+                (λ i. omega (arith, i .0))
+                (λ i.
+                let s = same-count n (length (d .0 .cables)) g z (cut (row (cables-line n)) (row (cables-line (length (d .0 .cables)))) more (i .1 .0) (tidy-count n g .ends) (tidy-count (length (d .0 .cables)) z .ends)
+                (sym (append-assoc (row (cables-line n)) (10 ∷ []) more) ∙ sym w ∙ i .1 .1 ∙ append-assoc (row (cables-line (length (d .0 .cables)))) (10 ∷ []) (i .1 .0)) .0) in
+                omega (arith, d .1 .cables))
+                (subst (λ B. Next B 2 rest) (alike (Cabled m) h (d .0) F e) (M .1));
+            fault = inr (
+              at ∙ ap (λ i. too-many (i + 1)) (let z : j ≡ 2 = omega (arith, o .read) in z),
+              along lines (A ++ cables-line n ∷ []) bs more (j + 1)
+                  (over-both A (cables-line n ∷ []) bs rest more 0 j (j + 1) o (record { bytes = w ∙ ap (λ q. q ++ more) (sym (append-nil (written (cables-line n)))); read = refl }))
+                  (Formed (2 ^ 32)) (ask (Cabled m) y (replicate n spare)) (map cable-line (replicate n spare))
+                  (formed (Cabled m) y (replicate n spare) (2 ^ 32) h k c (spares n) tt (omega (arith, g .1 .0)) (omega (arith, g .1 .0)))
+                  (ap (λ i. shape-line (Cabled m) ∷ run-line y ∷ cables-line i ∷ map cable-line (replicate n spare)) r),
+            );
+          },
+        ),
+      )
 
   no-cable : (n : ℕ) (cs : List Cable) → Over (shape-line (Cabled m) ∷ run-line y ∷ cables-line n ∷ map cable-line cs) bs 0 rest j → told f ≡ ill-formed (j + 1) → n ≤ 128 → length cs < n → Fitting cs → Barred cable-line (λ _. Unit {0}) rest →
       Faulty lines (Formed 128) (Formed (2 ^ 32)) bs f
@@ -156,22 +166,22 @@ module _ (bs rest : List ℕ) (j : ℕ) (f : Fault) (short : length bs ≤ 65536
       (ap (λ i. shape-line (Cabled m) ∷ run-line y ∷ cables-line i ∷ map cable-line (cs ++ R)) full ∙ ap (λ B. shape-line (Cabled m) ∷ run-line y ∷ cables-line n ∷ B) (map-append cable-line cs R))
       (tidy-shape (Cabled m) h, (tidy-run y k, tidy-rest (Cabled m) n cs (fits, all-map (All Fits) cable-line cs g)))
       (λ p F M.
-        let e = M .0 0 (omega arith) in
-        let a = alike (Cabled m) h p F e in
-        let ps = map cable-line (p .cables) in
-        let i = length (map cable-line cs) in
-        let s = same-count n (length (p .cables)) fits (alike-fits (Cabled m) h p F e m refl) (M .0 2 (omega arith) ∙ ap (λ A. row (getD A 2 [])) a) in
-        let d = length-map cs cable-line in
-        let q = length-map (p .cables) cable-line in
-        let line = getD-map cable-line (p .cables) i spare [] (omega arith) in
-        ⊎-elim
-        (λ z. omega (arith, z .0))
-        (λ z.
-          b (getD (p .cables) i spare) (z .1 .0)
-          (subst (All Fits) line (all-getD (All Fits) ps i [] (omega arith) (subst (All (All Fits)) a (F .numbers) .1 .1 .1)))
-          tt
-          (z .1 .1 ∙ ap (λ v. written v ++ z .1 .0) line))
-        (subst (λ A. Next A (suc (suc (suc i))) rest) a (M .1)))
+      let e = M .0 0 (omega arith) in
+      let a = alike (Cabled m) h p F e in
+      let ps = map cable-line (p .cables) in
+      let i = length (map cable-line cs) in
+      let s = same-count n (length (p .cables)) fits (alike-fits (Cabled m) h p F e m refl) (M .0 2 (omega arith) ∙ ap (λ A. row (getD A 2 [])) a) in
+      let d = length-map cs cable-line in
+      let q = length-map (p .cables) cable-line in
+      let line = getD-map cable-line (p .cables) i spare [] (omega arith) in
+      ⊎-elim
+      (λ z. omega (arith, z .0))
+      (λ z.
+      b (getD (p .cables) i spare) (z .1 .0)
+      (subst (All Fits) line (all-getD (All Fits) ps i [] (omega arith) (subst (All (All Fits)) a (F .numbers) .1 .1 .1)))
+      tt
+      (z .1 .1 ∙ ap (λ v. written v ++ z .1 .0) line))
+      (subst (λ A. Next A (suc (suc (suc i))) rest) a (M .1)))
 
 -- the count is refused
 pub miscounted : (bs : List ℕ) (s : Lines) (f : Fault) (x : Shape) (y : Run) → length bs ≤ 65536 → All Fits (shape-line x) → All Fits (run-line y) → Brief y → Over (shape-line x ∷ run-line y ∷ []) bs 0 (s .rest .now) (s .read) → Miscounted x s f →
@@ -201,6 +211,7 @@ module _ (bs : List ℕ) (s t : Lines) (x : Shape) (y : Run) (cs : List Cable) (
 
   pub finished : (q : Asked) → q ≡ ask x y cs → t .rest .now ≡ [] → Formed 128 q × (bs ≡ text (lines q))
   unfolding whole sound
-  finished q a z =
-      (subst (Formed 128) (sym a) sound,
-       whole .bytes ∙ ap (λ r. text (lines (ask x y cs)) ++ r) z ∙ append-nil (text (lines (ask x y cs))) ∙ ap (λ p. text (lines p)) (sym a))
+  finished q a z = (
+    subst (Formed 128) (sym a) sound,
+    whole .bytes ∙ ap (λ r. text (lines (ask x y cs)) ++ r) z ∙ append-nil (text (lines (ask x y cs))) ∙ ap (λ p. text (lines p)) (sym a),
+  )

@@ -44,13 +44,15 @@ pub over-line : (A : List (List Field)) (l : List Field) (bs rest more : List �
 over-line A l bs rest more i j k ws o n e w =
     record {
       bytes = o .bytes ∙ ap (λ q. text A ++ q) (is-line l rest more ws n w) ∙ sym (append-assoc (text A) (written l) more) ∙ ap (λ q. q ++ more) (joined-more written [] A l);
-      read = let z = length-push A l in omega (arith, o .read) }
+      read = let z = length-push A l in omega (arith, o .read);
+    }
 
 pub over-both : (A B : List (List Field)) (bs rest more : List ℕ) (i j k : ℕ) → Over A bs i rest j → Over B rest j more k → Over (A ++ B) bs i more k
 over-both A B bs rest more i j k o p =
     record {
       bytes = o .bytes ∙ ap (λ q. text A ++ q) (p .bytes) ∙ sym (append-assoc (text A) (text B) more) ∙ ap (λ q. q ++ more) (sym (text-append A B));
-      read = let z = length-append A B in omega (arith, o .read, p .read) }
+      read = let z = length-append A B in omega (arith, o .read, p .read);
+    }
 
 free-right : (b : ℕ) (xs ys : List ℕ) → Free b (xs ++ ys) → Free b ys
 free-right b [] ys h = h
@@ -70,11 +72,15 @@ module _ {X : Type 0} (line : X → List Field) (P : X → Type 0) (rest : List 
 module _ {D : Type 0} (lines : D → List (List Field)) (A : List (List Field)) (bs rest : List ℕ) (j : ℕ) (o : Over A bs 0 rest j) where
   -- a document that begins with them goes along
   pub along : (P : D → Type 0) (d : D) (Z : List (List Field)) → P d → lines d ≡ A ++ Z → Goes-on lines P (length A) bs
-  along P d Z h z =
-      (d, h,
-       (rest,
-        o .bytes ∙ ap (λ q. text q ++ rest) (sym (ap (take (length A)) z ∙ take-at A Z (length A) refl)),
-        λ l. absurd (let y : ⊥ = omega (arith, ap length z, length-append A Z) in y)))
+  along P d Z h z = (
+    d,
+    h,
+    (
+      rest,
+      o .bytes ∙ ap (λ q. text q ++ rest) (sym (ap (take (length A)) z ∙ take-at A Z (length A) refl)),
+      λ l. absurd (let y : ⊥ = omega (arith, ap length z, length-append A Z) in y),
+    ),
+  )
 
   -- one that goes on agrees with them, and goes on with the rest
   pub goes-on : (P : D → Type 0) → ((d : D) → P d → All Tidy (lines d)) → All Tidy A → (g : Goes-on lines P (length A + 1) bs) → Matched A (lines (g .0)) rest
@@ -85,7 +91,14 @@ module _ {D : Type 0} (lines : D → List (List Field)) (A : List (List Field)) 
       Lawful d → lines d ≡ A ++ Z → told f ≡ ill-formed (j + 1) → All Tidy A → ((d : D) → Unlimited d → Matched A (lines d) rest → ⊥) → Faulty lines Lawful Unlimited bs f
   halted Lawful Unlimited f d Z short weaker tidy h z at t none =
       let no : Goes-on lines Unlimited (length A + 1) bs → ⊥ = λ g. none (g .0) (g .1) (goes-on Unlimited tidy t g) in
-      inr (short, (length A, record {
-        before = along Lawful d Z h z;
-        ends = λ g. no (g .0, weaker (g .0) (g .1), g .2);
-        fault = inl (at ∙ ap (λ k. ill-formed (k + 1)) (let y : j ≡ length A = omega (arith, o .read) in y), no) }))
+      inr (
+        short,
+        (
+          length A,
+          record {
+            before = along Lawful d Z h z;
+            ends = λ g. no (g .0, weaker (g .0) (g .1), g .2);
+            fault = inl (at ∙ ap (λ k. ill-formed (k + 1)) (let y : j ≡ length A = omega (arith, o .read) in y), no);
+          },
+        ),
+      )

@@ -31,9 +31,9 @@ counted x m y s t ws k (Ok n) l e i h = subst (λ z. Counted z s t (Ok n)) (sym 
 counted x m y s t ws k (Err f) l e i h =
     subst (λ z. Miscounted z s f) (sym y)
     (⊎-elim
-      (λ g. inl (g .0 ∙ ap ill-formed i, other-line cables-line (λ _. Unit {0}) (s .rest .now) tidy-count ws (t .rest .now) l (λ n fits _. g .1 n fits)))
-      (λ g. inr (g .0 ∙ ap too-many i, (g .1 .0, t .rest .now, is-line (cables-line (g .1 .0)) (s .rest .now) (t .rest .now) ws l (g .1 .1), g .1 .2, g .1 .3)))
-      h)
+    (λ g. inl (g .0 ∙ ap ill-formed i, other-line cables-line (λ _. Unit {0}) (s .rest .now) tidy-count ws (t .rest .now) l (λ n fits _. g .1 n fits)))
+    (λ g. inr (g .0 ∙ ap too-many i, (g .1 .0, t .rest .now, is-line (cables-line (g .1 .0)) (s .rest .now) (t .rest .now) ws l (g .1 .1), g .1 .2, g .1 .3)))
+    h)
 
 -- one cable more
 module _ (s t : Lines) (cs : List Cable) (i : ℕ) (l : i < length cs) (o : Between (map cable-line (take i cs)) s t) where

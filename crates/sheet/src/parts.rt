@@ -6,7 +6,7 @@ use fabric::parts::Cable;
 use fabric::parts::CableDebug;
 
 // The cables that a text has at most.
-pub const MOST_CABLES: usize = 128;
+pub(crate) const MOST_CABLES: usize = 128;
 
 // The layout's line: a mesh of so many columns and rows, or so many nodes joined by cables.
 #[derive(Clone, Copy, PartialEq, Eq, Debug)]
@@ -39,12 +39,22 @@ pub struct Question {
 }
 
 impl Question {
-    pub(crate) fn new(shape: Shape, run: Run, cables: [Cable; MOST_CABLES], count: usize) -> Question
+    pub(crate) fn new(
+        shape: Shape,
+        run: Run,
+        cables: [Cable; MOST_CABLES],
+        count: usize,
+    ) -> Question
         requires { ⌜ count ≤ 128 ⌝ }
         ensures lines { λ r. ⌜ (r .shape ≡ shape) × (r .run ≡ run) ⌝ }
         ensures cables { λ r. ⌜ (r .cables ≡ cables) × (r .count ≡ count) ⌝ }
     {
-        Question { shape, run, cables, count }
+        Question {
+            shape,
+            run,
+            cables,
+            count,
+        }
     }
 
     // The cables in the order of their lines; a mesh has none.

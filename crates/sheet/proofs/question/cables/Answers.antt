@@ -41,7 +41,8 @@ loop-i-again c =
     let inv = c .loop-i .inv in
     let n = c .in-Continue-next .ensures tt in
     let x = c .in-Continue-cables .ensures tt in
-    let l : c .loop-i .i < length (c .loop-i .cables) = omega (arith, inv .2, c .loop-i-test .taken, c .pre) in
-    (more-lines s t (c .loop-i .cables) (c .loop-i .i) l (inv .0) (c .next .last .self) _ _ (n .0) (n .2) (x .0),
-     more-fitting s t (c .loop-i .cables) (c .loop-i .i) l (inv .0) _ (x .1) (inv .1),
-     length-set (c .loop-i .cables) (c .loop-i .i) _ ∙ inv .2)
+    let l : c .loop-i .i < length (c .loop-i .cables) = omega (arith, inv .2, c .loop-i-test .taken, c .pre) in (
+      more-lines s t (c .loop-i .cables) (c .loop-i .i) l (inv .0) (c .next .last .self) _ _ (n .0) (n .2) (x .0),
+      more-fitting s t (c .loop-i .cables) (c .loop-i .i) l (inv .0) _ (x .1) (inv .1),
+      length-set (c .loop-i .cables) (c .loop-i .i) _ ∙ inv .2,
+    )

@@ -11,5 +11,6 @@ pub returns-in-Break-nodes : need.returns-in-Break-nodes
 returns-in-Break-nodes c =
     passed shape-line (λ _. Unit {0}) _ _ _ _ (err-from-errBy _ (c .from-residual .ensures .1)) (c .in-Break-nodes .ensures tt .words .0)
     (elim [
-        Mesh w h ↦ λ fits p e. mesh-apart _ _ (sym e)
-      | Cabled n ↦ λ fits p e. c .in-Break-nodes .ensures tt .words .1 n [] (fits .1 .0) (rest-of e) ])
+      | Mesh w h ↦ λ fits p e. mesh-apart _ _ (sym e)
+      | Cabled n ↦ λ fits p e. c .in-Break-nodes .ensures tt .words .1 n [] (fits .1 .0) (rest-of e)
+    ])

@@ -12,7 +12,8 @@ returns-in-Break-node c =
     let h = c .in-Break-node .ensures tt in
     record {
       words = opened slot-fields _ _ _ _ _ (err-from-errBy _ (c .from-residual .ensures .1)) (h .words .0) (λ x vs fits e. h .words .1 (x .node) (letter (x .port) ∷ vs) (fits .0) e);
-      line = h .line }
+      line = h .line;
+    }
 
 pub returns-in-Break-port : need.returns-in-Break-port
 returns-in-Break-port c =
@@ -20,4 +21,5 @@ returns-in-Break-port c =
     let h = c .in-Break-port .ensures tt in
     record {
       words = opened slot-fields _ _ _ _ _ (err-from-errBy _ (c .from-residual-in-Break-port .ensures .1)) (h .words .0 ∙ ap ill-formed (n .line)) (λ x vs fits e. h .words .1 (x .port) vs (after (n .words .1) e));
-      line = h .line ∙ n .line }
+      line = h .line ∙ n .line;
+    }
