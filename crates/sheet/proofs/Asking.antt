@@ -1,18 +1,18 @@
 -- Where the reading of a question stops.
 use Prim.Native.Nat.{ℕ, zero, suc, _+_, _-_, _<_, _≤_, _^_}
 use mathlib.Core.Path.{_≡_, refl, sym, _∙_, ap, subst}
-use mathlib.Core.Logic.{inl, inr, ⊎-elim}
+use mathlib.Core.Logic.{inr, ⊎-elim}
 use mathlib.Core.List.{List, [], _∷_, _++_, map, append-nil, append-assoc}
 use native.Mathlib.Omega.{arith}
-use lib.ListN.{length, getD, take, drop, replicate}
+use lib.ListN.{length, getD, replicate}
 use Rattle.std.specs.shelf.Lists.{All}
-use Rattle.std.proofs.shelf.Lists.{length-append, length-replicate, length-map, map-append, getD-map, getD-drop}
+use Rattle.std.proofs.shelf.Lists.{length-append, length-replicate, length-map, map-append, getD-map}
 use Rattle.std.proofs.shelf.Elements.{all-append, all-getD, all-map}
 use Rattle.fabric.specs.declared.parts.Cable.{Cable}
 use Rattle.fabric.specs.declared.parts.Port.the-variants.{N}
-use Rattle.sheet.specs.Texts.{Field, Fits, Barred, row, written, text}
-use Rattle.sheet.specs.Faults.{told, ill-formed, too-many, Goes-on, Faulty}
-use Rattle.sheet.specs.Questions.{Asked, shape-line, run-line, cables-line, cable-line, count-lines, lines, Brief, Uncabled, Formed}
+use Rattle.sheet.specs.Texts.{Field, Fits, Barred, row, written, text, Any}
+use Rattle.sheet.specs.Faults.{told, ill-formed, too-many}
+use Rattle.sheet.specs.Questions.{Asked, shape-line, run-line, cables-line, cable-line, count-lines, lines, Brief, Uncabled, Formed, asked-text, Refused}
 use Rattle.sheet.specs.Reading.{Over, Between, Miscounted, Fitting, Unwired}
 use Rattle.sheet.specs.declared.fault.Fault.{Fault}
 use Rattle.sheet.specs.declared.lines.Lines.{Lines}
@@ -88,21 +88,21 @@ same-length (Cabled n) h y cs G p F a =
     ap length (alike (Cabled n) h p F e) ∙ (let l = length-map (p .cables) cable-line in let m = length-map cs cable-line in omega arith)
 
 module _ (bs rest : List ℕ) (j : ℕ) (f : Fault) (short : length bs ≤ 65536) (at : told f ≡ ill-formed (j + 1)) where
-  stop : (A Z : List (List Field)) (q : Asked) → Over A bs 0 rest j → Formed 128 q → lines q ≡ A ++ Z → All Tidy A → ((p : Asked) → Formed (2 ^ 32) p → Matched A (lines p) rest → ⊥) → Faulty lines (Formed 128) (Formed (2 ^ 32)) bs f
+  stop : (A Z : List (List Field)) (q : Asked) → Over A bs 0 rest j → Formed 128 q → lines q ≡ A ++ Z → All Tidy A → ((p : Asked) → Formed (2 ^ 32) p → Matched A (lines p) rest → ⊥) → Refused bs f
   stop A Z q o F z = halted lines A bs rest j o (Formed 128) (Formed (2 ^ 32)) f q Z short weaker tidied F z at
 
-  pub no-shape : Over [] bs 0 rest j → Barred shape-line (λ _. Unit {0}) rest → Faulty lines (Formed 128) (Formed (2 ^ 32)) bs f
+  pub no-shape : Over [] bs 0 rest j → Barred shape-line Any rest → Refused bs f
   no-shape o b =
       stop [] _ (ask (Mesh 0 0) spare-run []) o (formed-bare (Mesh 0 0) (tt, (omega arith, (omega arith, tt)))) refl tt
       (λ p F m. ⊎-elim (λ i. omega (arith, i .0)) (λ i. b (p .shape) (i .1 .0) (F .numbers .0) tt (i .1 .1)) (m .1))
 
   module _ (x : Shape) (h : All Fits (shape-line x)) where
-    pub no-run : Over (shape-line x ∷ []) bs 0 rest j → Barred run-line Brief rest → Faulty lines (Formed 128) (Formed (2 ^ 32)) bs f
+    pub no-run : Over (shape-line x ∷ []) bs 0 rest j → Barred run-line Brief rest → Refused bs f
     no-run o b =
         stop (shape-line x ∷ []) _ (ask x spare-run []) o (formed-bare x h) refl (tidy-shape x h, tt)
         (λ p F m. ⊎-elim (λ i. omega (arith, i .0)) (λ i. b (p .run) (i .1 .0) (F .numbers .1 .0) (F .cycles) (i .1 .1)) (m .1))
 
-    pub no-end : (y : Run) (cs : List Cable) → Over (lines (ask x y cs)) bs 0 rest j → Formed 128 (ask x y cs) → (rest ≡ [] → ⊥) → Faulty lines (Formed 128) (Formed (2 ^ 32)) bs f
+    pub no-end : (y : Run) (cs : List Cable) → Over (lines (ask x y cs)) bs 0 rest j → Formed 128 (ask x y cs) → (rest ≡ [] → ⊥) → Refused bs f
     no-end y cs o G b =
         stop (lines (ask x y cs)) [] (ask x y cs) o G (sym (append-nil (lines (ask x y cs)))) (tidied (ask x y cs) (weaker (ask x y cs) G))
         (λ p F m.
@@ -111,7 +111,7 @@ module _ (bs rest : List ℕ) (j : ℕ) (f : Fault) (short : length bs ≤ 65536
 
 -- a cabled layout's count or cable is missing
 module _ (bs rest : List ℕ) (j : ℕ) (f : Fault) (short : length bs ≤ 65536) (m : ℕ) (h : All Fits (shape-line (Cabled m))) (y : Run) (k : All Fits (run-line y)) (c : Brief y) where
-  no-count : Over (shape-line (Cabled m) ∷ run-line y ∷ []) bs 0 rest j → told f ≡ ill-formed (j + 1) → Barred cables-line (λ _. Unit {0}) rest → Faulty lines (Formed 128) (Formed (2 ^ 32)) bs f
+  no-count : Over (shape-line (Cabled m) ∷ run-line y ∷ []) bs 0 rest j → told f ≡ ill-formed (j + 1) → Barred cables-line Any rest → Refused bs f
   no-count o at b =
       stop bs rest j f short at (shape-line (Cabled m) ∷ run-line y ∷ []) _ (ask (Cabled m) y []) o (formed (Cabled m) y [] 128 h k c tt tt (omega arith) (omega arith)) refl (tidy-shape (Cabled m) h, (tidy-run y k, tt))
       (λ p F n.
@@ -121,7 +121,7 @@ module _ (bs rest : List ℕ) (j : ℕ) (f : Fault) (short : length bs ≤ 65536
       (λ i. b (length (p .cables)) (i .1 .0) (alike-fits (Cabled m) h p F e m refl) tt (i .1 .1))
       (subst (λ A. Next A 2 rest) (alike (Cabled m) h p F e) (n .1)))
 
-  over-count : (n : ℕ) (more : List ℕ) → Over (shape-line (Cabled m) ∷ run-line y ∷ []) bs 0 rest j → told f ≡ too-many (j + 1) → rest ≡ written (cables-line n) ++ more → All Fits (cables-line n) → 128 < n → Faulty lines (Formed 128) (Formed (2 ^ 32)) bs f
+  over-count : (n : ℕ) (more : List ℕ) → Over (shape-line (Cabled m) ∷ run-line y ∷ []) bs 0 rest j → told f ≡ too-many (j + 1) → rest ≡ written (cables-line n) ++ more → All Fits (cables-line n) → 128 < n → Refused bs f
   over-count n more o at w g l =
       let A = shape-line (Cabled m) ∷ run-line y ∷ [] in
       let r = length-replicate n spare in
@@ -155,8 +155,8 @@ module _ (bs rest : List ℕ) (j : ℕ) (f : Fault) (short : length bs ≤ 65536
         ),
       )
 
-  no-cable : (n : ℕ) (cs : List Cable) → Over (shape-line (Cabled m) ∷ run-line y ∷ cables-line n ∷ map cable-line cs) bs 0 rest j → told f ≡ ill-formed (j + 1) → n ≤ 128 → length cs < n → Fitting cs → Barred cable-line (λ _. Unit {0}) rest →
-      Faulty lines (Formed 128) (Formed (2 ^ 32)) bs f
+  no-cable : (n : ℕ) (cs : List Cable) → Over (shape-line (Cabled m) ∷ run-line y ∷ cables-line n ∷ map cable-line cs) bs 0 rest j → told f ≡ ill-formed (j + 1) → n ≤ 128 → length cs < n → Fitting cs → Barred cable-line Any rest →
+      Refused bs f
   no-cable n cs o at u l g b =
       let R = replicate (n - length cs) spare in
       let full : length (cs ++ R) ≡ n = length-append cs R ∙ (let z = length-replicate (n - length cs) spare in omega arith) in
@@ -185,7 +185,7 @@ module _ (bs rest : List ℕ) (j : ℕ) (f : Fault) (short : length bs ≤ 65536
 
 -- the count is refused
 pub miscounted : (bs : List ℕ) (s : Lines) (f : Fault) (x : Shape) (y : Run) → length bs ≤ 65536 → All Fits (shape-line x) → All Fits (run-line y) → Brief y → Over (shape-line x ∷ run-line y ∷ []) bs 0 (s .rest .now) (s .read) → Miscounted x s f →
-    Faulty lines (Formed 128) (Formed (2 ^ 32)) bs f
+    Refused bs f
 miscounted bs s f (Mesh w v) y short h k c o b = absurd b
 miscounted bs s f (Cabled m) y short h k c o b =
     ⊎-elim
@@ -195,7 +195,7 @@ miscounted bs s f (Cabled m) y short h k c o b =
 
 -- a cable is refused
 pub miswired : (bs : List ℕ) (s : Lines) (f : Fault) (x : Shape) (y : Run) (n : ℕ) → length bs ≤ 65536 → All Fits (shape-line x) → All Fits (run-line y) → Brief y → Over (shape-line x ∷ run-line y ∷ count-lines x n) bs 0 (s .rest .now) (s .read) → Uncabled x n → n ≤ 128 → Unwired n s f →
-    Faulty lines (Formed 128) (Formed (2 ^ 32)) bs f
+    Refused bs f
 miswired bs s f (Mesh w v) y n short h k c o u l b = absurd (let z : ⊥ = omega (arith, b .3) in z)
 miswired bs s f (Cabled m) y n short h k c o u l b =
     no-cable bs (b .1) (b .2) f short m h y k c n (b .0) (over-both (shape-line (Cabled m) ∷ run-line y ∷ cables-line n ∷ []) (map cable-line (b .0)) bs (s .rest .now) (b .1) 0 (s .read) (b .2) o (b .5)) (b .6) l (b .3) (b .4) (b .7)
@@ -209,7 +209,7 @@ module _ (bs : List ℕ) (s t : Lines) (x : Shape) (y : Run) (cs : List Cable) (
   pub sound : Formed 128 (ask x y cs)
   sound = formed x y cs 128 h k c g (subst (Uncabled x) (sym e) u) (omega arith) (omega arith)
 
-  pub finished : (q : Asked) → q ≡ ask x y cs → t .rest .now ≡ [] → Formed 128 q × (bs ≡ text (lines q))
+  pub finished : (q : Asked) → q ≡ ask x y cs → t .rest .now ≡ [] → Formed 128 q × (bs ≡ asked-text q)
   unfolding whole sound
   finished q a z = (
     subst (Formed 128) (sym a) sound,

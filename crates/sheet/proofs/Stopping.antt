@@ -1,12 +1,12 @@
 -- Where reading stops, no document goes on.
 use Prim.Native.Nat.{ℕ, _+_, _-_, _<_, _≤_}
 use mathlib.Core.Path.{_≡_, refl, sym, _∙_, ap, subst}
-use mathlib.Core.Logic.{_⊎_, inl, inr, ⊎-elim}
+use mathlib.Core.Logic.{inl, inr}
 use mathlib.Core.List.{List, [], _∷_, _++_, map, append-assoc}
 use native.Mathlib.Omega.{arith}
 use lib.ListN.{length, getD, take, drop}
 use Rattle.std.specs.shelf.Lists.{All}
-use Rattle.std.proofs.shelf.Lists.{take-append-drop, take-all, take-rest, drop-more, take-at, length-append, length-push, joined-more}
+use Rattle.std.proofs.shelf.Lists.{take-append-drop, take-rest, drop-more, take-at, length-append, length-push, joined-more}
 use Rattle.sheet.specs.Texts.{Field, Fits, Free, Lined, Barred, shown, spaced, row, written, text, parted}
 use Rattle.sheet.specs.Faults.{told, ill-formed, Goes-on, Faulty}
 use Rattle.sheet.specs.declared.fault.Fault.{Fault}

@@ -1,17 +1,17 @@
 -- The lines of the cables, and the line of their count.
-use Prim.Native.Nat.{ℕ, _+_, _<_, _≤_}
+use Prim.Native.Nat.{ℕ, _+_, _<_}
 use mathlib.Core.Path.{_≡_, refl, sym, _∙_, ap, subst}
 use mathlib.Core.Logic.{inl, inr, ⊎-elim}
-use mathlib.Core.List.{List, [], _∷_, _++_, map}
+use mathlib.Core.List.{List, [], map}
 use native.Mathlib.Omega.{arith}
 use lib.ListN.{length, take, set}
 use Rattle.std.specs.declared.result.Result.{Result}
 use Rattle.std.specs.declared.result.Result.the-variants.{Ok, Err}
 use Rattle.std.specs.shelf.Lists.{All}
-use Rattle.std.proofs.shelf.Lists.{length-set, length-take-le, take-more-set, map-push}
+use Rattle.std.proofs.shelf.Lists.{length-take-le, take-more-set, map-push}
 use Rattle.std.proofs.shelf.Elements.{all-push}
 use Rattle.fabric.specs.declared.parts.Cable.{Cable}
-use Rattle.sheet.specs.Texts.{Fits, Free, Lined, Barred, shown}
+use Rattle.sheet.specs.Texts.{Fits, Free, Lined, Barred, shown, Any}
 use Rattle.sheet.specs.Faults.{told, ill-formed, too-many}
 use Rattle.sheet.specs.Fields.{Counts}
 use Rattle.sheet.specs.Questions.{cables-line, cable-line}
@@ -24,14 +24,14 @@ use Rattle.sheet.proofs.Tidy.{tidy-count}
 use Rattle.sheet.proofs.Stopping.{is-line, over-line, no-line, other-line}
 
 pub uncounted : (x : Shape) (m : ℕ) → x ≡ Cabled m → (s : Lines) (f : Fault) → told f ≡ ill-formed (s .read + 1) → Free 10 (s .rest .now) → Miscounted x s f
-uncounted x m e s f at h = subst (λ y. Miscounted y s f) (sym e) (inl (at, no-line cables-line (λ _. Unit {0}) (s .rest .now) h))
+uncounted x m e s f at h = subst (λ y. Miscounted y s f) (sym e) (inl (at, no-line cables-line Any (s .rest .now) h))
 
 pub counted : (x : Shape) (m : ℕ) → x ≡ Cabled m → (s t : Lines) (ws : List (List ℕ)) (k : ℕ) (r : Result ℕ Fault) → Lined (s .rest .now) ws (t .rest .now) → t .read ≡ s .read + 1 → k ≡ s .read + 1 → Counts cables-line 128 ws k r → Counted x s t r
 counted x m y s t ws k (Ok n) l e i h = subst (λ z. Counted z s t (Ok n)) (sym y) (over-line [] (cables-line n) _ _ _ _ _ _ ws (record { bytes = refl; read = omega arith }) l e (h .0), tt, h .2)
 counted x m y s t ws k (Err f) l e i h =
     subst (λ z. Miscounted z s f) (sym y)
     (⊎-elim
-    (λ g. inl (g .0 ∙ ap ill-formed i, other-line cables-line (λ _. Unit {0}) (s .rest .now) tidy-count ws (t .rest .now) l (λ n fits _. g .1 n fits)))
+    (λ g. inl (g .0 ∙ ap ill-formed i, other-line cables-line Any (s .rest .now) tidy-count ws (t .rest .now) l (λ n fits _. g .1 n fits)))
     (λ g. inr (g .0 ∙ ap too-many i, (g .1 .0, t .rest .now, is-line (cables-line (g .1 .0)) (s .rest .now) (t .rest .now) ws l (g .1 .1), g .1 .2, g .1 .3)))
     h)
 
@@ -46,5 +46,5 @@ module _ (s t : Lines) (cs : List Cable) (i : ℕ) (l : i < length cs) (o : Betw
   more-fitting x h f = subst Fitting (sym (take-more-set cs i x l)) (all-push (λ c. All Fits (cable-line c)) (take i cs) x f h)
 
   -- no cable follows
-  pub unwired : (n : ℕ) (f : Fault) → i < n → Fitting (take i cs) → told f ≡ ill-formed (t .read + 1) → Barred cable-line (λ _. Unit {0}) (t .rest .now) → Unwired n s f
+  pub unwired : (n : ℕ) (f : Fault) → i < n → Fitting (take i cs) → told f ≡ ill-formed (t .read + 1) → Barred cable-line Any (t .rest .now) → Unwired n s f
   unwired n f k h at b = (take i cs, t .rest .now, t .read, (let z = length-take-le i cs (omega arith) in omega arith), h, o, at, b)

@@ -1,5 +1,5 @@
 -- A question, and its one text.
-use Prim.Native.Nat.{ℕ, _≤_}
+use Prim.Native.Nat.{ℕ, _≤_, _^_}
 use mathlib.Core.Path.{_≡_}
 use mathlib.Core.List.{List, [], _∷_, _++_, map}
 use lib.Chars.{codes}
@@ -8,7 +8,9 @@ use Rattle.std.specs.shelf.Lists.{All}
 use Rattle.fabric.specs.Ports.{letter}
 use Rattle.fabric.specs.declared.parts.Slot.{Slot}
 use Rattle.fabric.specs.declared.parts.Cable.{Cable}
-use Rattle.sheet.specs.Texts.{Field, word, number, Fits}
+use Rattle.sheet.specs.Texts.{Field, word, number, Fits, text}
+use Rattle.sheet.specs.Faults.{Faulty}
+use Rattle.sheet.specs.declared.fault.Fault.{Fault}
 use Rattle.sheet.specs.declared.parts.Shape.{Shape}
 use Rattle.sheet.specs.declared.parts.Shape.the-variants.{Mesh, Cabled}
 use Rattle.sheet.specs.declared.parts.Run.{Run}
@@ -62,3 +64,10 @@ pub record Formed (c : ℕ) (q : Asked) : Type 0 where
   pub cycles : Brief (q .run)
   pub uncabled : Uncabled (q .shape) (length (q .cables))
   pub cables : length (q .cables) ≤ c
+
+abbrev pub asked-text : Asked → List ℕ
+asked-text q = text (lines q)
+
+-- the bytes are no question's text, by this fault
+abbrev pub Refused : List ℕ → Fault → Type 0
+Refused bs f = Faulty lines (Formed 128) (Formed (2 ^ 32)) bs f

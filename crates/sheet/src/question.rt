@@ -1,11 +1,9 @@
 // The reader of questions: a layout and a run, asked for their limits.
-ghost use Prim.Native.Nat.{_≤_, _^_};
+ghost use Prim.Native.Nat.{_≤_};
 ghost use mathlib.Core.Path.{_≡_};
 ghost use lib.ListN.{length};
 ghost use Rattle.std.specs.Results.{Cases};
-ghost use Rattle.sheet.specs.Faults.{Faulty};
-ghost use Rattle.sheet.specs.Texts.{text};
-ghost use Rattle.sheet.specs.Questions.{asked, lines as written-lines, Formed};
+ghost use Rattle.sheet.specs.Questions.{asked, asked-text, Formed, Refused};
 ghost use Rattle.sheet.specs.Reading.{Counted, Wired};
 use super::fault::Fault;
 use super::lines::Lines;
@@ -51,7 +49,7 @@ fn cables(lines: &mut Lines, count: usize) -> Result<[Cable; MOST_CABLES], Fault
 // Reads `mesh W H` or `cabled N`, then `run T M L seed cycles`, and for a cabled layout
 // `cables K` and K lines `node PORT node PORT`; nothing else.
 pub fn read(bytes: &[u8]) -> Result<Question, Fault>
-    ensures { λ r. ⌜ Cases r (λ q. (length (now (bytes .entry)) ≤ 65536) × Formed 128 (asked q) × (now (bytes .entry) ≡ text (written-lines (asked q)))) (λ f. Faulty written-lines (Formed 128) (Formed (2 ^ 32)) (now (bytes .entry)) f) ⌝ }
+    ensures { λ r. ⌜ Cases r (λ q. (length (now (bytes .entry)) ≤ 65536) × Formed 128 (asked q) × (now (bytes .entry) ≡ asked-text (asked q))) (λ f. Refused (now (bytes .entry)) f) ⌝ }
 {
     if bytes.len() > MOST_BYTES {
         return Err(Fault::too_long());

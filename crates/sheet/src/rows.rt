@@ -3,6 +3,7 @@ ghost use mathlib.Core.Path.{_≡_};
 ghost use mathlib.Core.List.{_∷_};
 ghost use lib.Chars.{codes};
 ghost use Rattle.sheet.specs.Fields.{words, Reads, Begins, Counts};
+ghost use Rattle.sheet.specs.Texts.{Any};
 ghost use Rattle.sheet.specs.Questions.{shape-line, run-line, Brief, cables-line, slot-fields, cable-line};
 use super::fault::Fault;
 use super::field::Fields;
@@ -17,7 +18,7 @@ const MOST_CYCLES: u32 = 65535;
 
 // The rest of a mesh's line.
 fn mesh(fields: &mut Fields) -> Result<Shape, Fault>
-    ensures { λ r. ⌜ Reads shape-line (λ _. Unit {0}) (codes "mesh" ∷ words (now (fields .entry))) (now (fields .entry) .line) r ⌝ }
+    ensures { λ r. ⌜ Reads shape-line Any (codes "mesh" ∷ words (now (fields .entry))) (now (fields .entry) .line) r ⌝ }
 {
     let width = fields.number()?;
     let height = fields.number()?;
@@ -27,7 +28,7 @@ fn mesh(fields: &mut Fields) -> Result<Shape, Fault>
 
 // The rest of a cabled layout's line.
 fn cabled(fields: &mut Fields) -> Result<Shape, Fault>
-    ensures { λ r. ⌜ Reads shape-line (λ _. Unit {0}) (codes "cabled" ∷ words (now (fields .entry))) (now (fields .entry) .line) r ⌝ }
+    ensures { λ r. ⌜ Reads shape-line Any (codes "cabled" ∷ words (now (fields .entry))) (now (fields .entry) .line) r ⌝ }
 {
     let nodes = fields.number()?;
     fields.end()?;
@@ -35,7 +36,7 @@ fn cabled(fields: &mut Fields) -> Result<Shape, Fault>
 }
 
 pub(crate) fn shape(fields: &mut Fields) -> Result<Shape, Fault>
-    ensures { λ r. ⌜ Reads shape-line (λ _. Unit {0}) (words (now (fields .entry))) (now (fields .entry) .line) r ⌝ }
+    ensures { λ r. ⌜ Reads shape-line Any (words (now (fields .entry))) (now (fields .entry) .line) r ⌝ }
 {
     match fields.word()? {
         w if is(w, b"mesh") => mesh(fields),
@@ -107,7 +108,7 @@ fn slot(fields: &mut Fields) -> Result<Slot, Fault>
 }
 
 pub(crate) fn cable(fields: &mut Fields) -> Result<Cable, Fault>
-    ensures { λ r. ⌜ Reads cable-line (λ _. Unit {0}) (words (now (fields .entry))) (now (fields .entry) .line) r ⌝ }
+    ensures { λ r. ⌜ Reads cable-line Any (words (now (fields .entry))) (now (fields .entry) .line) r ⌝ }
 {
     let one = slot(fields)?;
     let other = slot(fields)?;

@@ -1,9 +1,10 @@
 use Prim.Native.Nat.{_<_}
-use mathlib.Core.Path.{_≡_, _∙_, ap}
+use mathlib.Core.Path.{_∙_, ap}
 use native.Mathlib.Omega.{arith}
 use lib.ListN.{length}
 use Rattle.std.proofs.shelf.Lists.{length-set}
 use Rattle.std.proofs.shelf.Results.{err-from-errBy}
+use Rattle.sheet.specs.Texts.{Any}
 use Rattle.sheet.specs.Faults.{ill-formed}
 use Rattle.sheet.specs.Questions.{cable-line}
 use Rattle.sheet.specs.Reading.{Unwired}
@@ -21,7 +22,7 @@ returns-in-Break-next c =
     let h = c .in-Break-next .ensures tt in
     let l : c .loop-i .i < length (c .loop-i .cables) = omega (arith, inv .2, c .loop-i-test .taken, c .pre) in
     err-at _ (Unwired (c .args .count) s) _ _ (err-from-errBy _ (c .from-residual .ensures .1))
-    (unwired s t (c .loop-i .cables) (c .loop-i .i) l (inv .0) _ _ (c .loop-i-test .taken) (inv .1) (h .0) (no-line cable-line (λ _. Unit {0}) _ (h .1)))
+    (unwired s t (c .loop-i .cables) (c .loop-i .i) l (inv .0) _ _ (c .loop-i-test .taken) (inv .1) (h .0) (no-line cable-line Any _ (h .1)))
 
 pub returns-in-Break-cables : need.returns-in-Break-cables
 returns-in-Break-cables c =
@@ -32,7 +33,7 @@ returns-in-Break-cables c =
     let h = c .in-Break-cables .ensures tt in
     let l : c .loop-i .i < length (c .loop-i .cables) = omega (arith, inv .2, c .loop-i-test .taken, c .pre) in
     err-at _ (Unwired (c .args .count) s) _ _ (err-from-errBy _ (c .from-residual-in-Break-cables .ensures .1))
-    (unwired s t (c .loop-i .cables) (c .loop-i .i) l (inv .0) _ _ (c .loop-i-test .taken) (inv .1) (h .0 ∙ ap ill-formed (n .1)) (other-line cable-line (λ _. Unit {0}) _ tidy-cable _ _ (n .0) (h .1)))
+    (unwired s t (c .loop-i .cables) (c .loop-i .i) l (inv .0) _ _ (c .loop-i-test .taken) (inv .1) (h .0 ∙ ap ill-formed (n .1)) (other-line cable-line Any _ tidy-cable _ _ (n .0) (h .1)))
 
 pub loop-i-again : need.loop-i-again
 loop-i-again c =

@@ -1,4 +1,3 @@
-use mathlib.Core.Path.{_≡_}
 use Rattle.std.proofs.shelf.Results.{err-from-errBy}
 use Rattle.sheet.specs.Reading.{Miscounted}
 use Rattle.sheet.proofs.Exits.{err-at}

@@ -1,4 +1,4 @@
-use mathlib.Core.Path.{_≡_, _∙_, ap}
+use mathlib.Core.Path.{_∙_, ap}
 use mathlib.Core.List.{_∷_}
 use Rattle.std.proofs.shelf.Results.{err-from-errBy}
 use Rattle.fabric.specs.Ports.{letter}
