@@ -4,24 +4,26 @@ use mathlib.Core.Path.{_≡_, refl, sym, _∙_, ap, subst}
 use mathlib.Core.Logic.{inr, ⊎-elim}
 use mathlib.Core.List.{List, [], _∷_, _++_, map, append-nil, append-assoc}
 use native.Mathlib.Omega.{arith}
-use lib.ListN.{length, getD, replicate}
+use lib.ListN.{length, getD, take, replicate}
 use Rattle.std.specs.shelf.Lists.{All}
-use Rattle.std.proofs.shelf.Lists.{length-append, length-replicate, length-map, map-append, getD-map}
+use Rattle.std.proofs.shelf.Lists.{length-append, length-replicate, length-take-le, length-map, map-append, getD-map}
 use Rattle.std.proofs.shelf.Elements.{all-append, all-getD, all-map}
 use Rattle.fabric.specs.declared.parts.Cable.{Cable}
 use Rattle.fabric.specs.declared.parts.Port.the-variants.{N}
-use Rattle.sheet.specs.Texts.{Field, Fits, Barred, row, written, text, Any}
+use Rattle.sheet.specs.Texts.{Field, Fits, Lined, Barred, shown, row, written, Any}
+use Rattle.sheet.specs.Fields.{words}
 use Rattle.sheet.specs.Faults.{told, ill-formed, too-many}
 use Rattle.sheet.specs.Questions.{Asked, shape-line, run-line, cables-line, cable-line, count-lines, lines, Brief, Uncabled, Formed, asked-text, Refused}
 use Rattle.sheet.specs.Reading.{Over, Between, Miscounted, Fitting, Unwired}
 use Rattle.sheet.specs.declared.fault.Fault.{Fault}
+use Rattle.sheet.specs.declared.field.Fields.{Fields}
 use Rattle.sheet.specs.declared.lines.Lines.{Lines}
 use Rattle.sheet.specs.declared.parts.Shape.{Shape}
 use Rattle.sheet.specs.declared.parts.Shape.the-variants.{Mesh, Cabled}
 use Rattle.sheet.specs.declared.parts.Run.{Run}
 use Rattle.sheet.proofs.Aligned.{Agree, Next, Matched, cut}
 use Rattle.sheet.proofs.Tidy.{Tidy, tidy-shape, tidy-run, tidy-count, tidy-rest, tidy-lines, same-count, same-shape}
-use Rattle.sheet.proofs.Stopping.{along, goes-on, halted, over-both}
+use Rattle.sheet.proofs.Stopping.{along, goes-on, halted, over-none, over-line, over-both}
 
 -- a run that any layout may have, and cables that fill up a count
 spare-run : Run
@@ -87,27 +89,79 @@ same-length (Cabled n) h y cs G p F a =
     let s = same-count (length cs) (length (p .cables)) (G .numbers .1 .1 .0) (alike-fits (Cabled n) h p F e n refl) r in
     ap length (alike (Cabled n) h p F e) ∙ (let l = length-map (p .cables) cable-line in let m = length-map cs cable-line in omega arith)
 
+-- what was read of the text bs, up to s: the layout and the run, the count of cables, and the cables
+pub record Fronted (bs : List ℕ) (x : Shape) (y : Run) (s : Lines) : Type 0 where
+  pub shape : All Fits (shape-line x)
+  pub run : All Fits (run-line y)
+  pub brief : Brief y
+  pub over : Over (shape-line x ∷ run-line y ∷ []) bs 0 (s .rest .now) (s .read)
+
+pub record Tallied (bs : List ℕ) (x : Shape) (y : Run) (n : ℕ) (s : Lines) : Type 0 where
+  pub shape : All Fits (shape-line x)
+  pub run : All Fits (run-line y)
+  pub brief : Brief y
+  pub over : Over (shape-line x ∷ run-line y ∷ count-lines x n) bs 0 (s .rest .now) (s .read)
+  pub uncabled : Uncabled x n
+  pub most : n ≤ 128
+
+pub record Whole (bs : List ℕ) (q : Asked) (s : Lines) : Type 0 where
+  pub formed : Formed 128 q
+  pub over : Over (lines q) bs 0 (s .rest .now) (s .read)
+
+-- the step from s to the fields g of the next line, and to t after it
+abbrev Step : Lines → Fields → Lines → Type 0
+Step s g t = Lined (s .rest .now) (words g) (t .rest .now) × (g .line ≡ s .read + 1) × (t .read ≡ s .read + 1)
+
+pub shaped : (bs : List ℕ) (s t : Lines) (g : Fields) (x : Shape) → s .rest .now ≡ bs → s .read ≡ 0 → Step s g t → words g ≡ map shown (shape-line x) → Over (shape-line x ∷ []) bs 0 (t .rest .now) (t .read)
+shaped bs s t g x e z n w = over-line [] (shape-line x) bs (s .rest .now) (t .rest .now) 0 (s .read) (t .read) (words g) (over-none bs (s .rest .now) (s .read) e z) (n .0) (n .2) w
+
+pub fronted : (bs : List ℕ) (s t u : Lines) (g h : Fields) (x : Shape) (y : Run) → s .rest .now ≡ bs → s .read ≡ 0 → Step s g t → (words g ≡ map shown (shape-line x)) × All Fits (shape-line x) × Any x → Step t h u → (words h ≡ map shown (run-line y)) × All Fits (run-line y) × Brief y → Fronted bs x y u
+fronted bs s t u g h x y e z n v m w =
+    record {
+      shape = v .1;
+      run = w .1;
+      brief = w .2;
+      over = over-line (shape-line x ∷ []) (run-line y) bs (t .rest .now) (u .rest .now) 0 (t .read) (u .read) (words h) (shaped bs s t g x e z n (v .0)) (m .0) (m .2) (w .0);
+    }
+
+pub tallied : (bs : List ℕ) (s t : Lines) (x : Shape) (y : Run) (n : ℕ) → Fronted bs x y s → Between (count-lines x n) s t × Uncabled x n × (n ≤ 128) → Tallied bs x y n t
+tallied bs s t x y n a k =
+    record {
+      shape = a .shape;
+      run = a .run;
+      brief = a .brief;
+      over = over-both (shape-line x ∷ run-line y ∷ []) (count-lines x n) bs (s .rest .now) (t .rest .now) 0 (s .read) (t .read) (a .over) (k .0);
+      uncabled = k .1;
+      most = k .2;
+    }
+
+pub wholly : (bs : List ℕ) (s t : Lines) (x : Shape) (y : Run) (n : ℕ) (cs : List Cable) → Tallied bs x y n s → Between (map cable-line (take n cs)) s t × Fitting (take n cs) × (length cs ≡ 128) → Whole bs (ask x y (take n cs)) t
+wholly bs s t x y n cs a w =
+    let e : length (take n cs) ≡ n = length-take-le n cs (omega (arith, a .most, w .2)) in
+    record {
+      formed = formed x y (take n cs) 128 (a .shape) (a .run) (a .brief) (w .1) (subst (Uncabled x) (sym e) (a .uncabled)) (omega (arith, a .most)) (omega (arith, a .most));
+      over = over-both (shape-line x ∷ run-line y ∷ count-lines x (length (take n cs))) (map cable-line (take n cs)) bs (s .rest .now) (t .rest .now) 0 (s .read) (t .read) (subst (λ i. Over (shape-line x ∷ run-line y ∷ count-lines x i) bs 0 (s .rest .now) (s .read)) (sym e) (a .over)) (w .0);
+    }
+
+pub finished : (bs : List ℕ) (s : Lines) (p q : Asked) → Whole bs p s → q ≡ p → s .rest .now ≡ [] → Formed 128 q × (bs ≡ asked-text q)
+finished bs s p q a e z = (
+  subst (Formed 128) (sym e) (a .formed),
+  a .over .bytes ∙ ap (λ r. asked-text p ++ r) z ∙ append-nil (asked-text p) ∙ ap asked-text (sym e),
+)
+
 module _ (bs rest : List ℕ) (j : ℕ) (f : Fault) (short : length bs ≤ 65536) (at : told f ≡ ill-formed (j + 1)) where
   stop : (A Z : List (List Field)) (q : Asked) → Over A bs 0 rest j → Formed 128 q → lines q ≡ A ++ Z → All Tidy A → ((p : Asked) → Formed (2 ^ 32) p → Matched A (lines p) rest → ⊥) → Refused bs f
   stop A Z q o F z = halted lines A bs rest j o (Formed 128) (Formed (2 ^ 32)) f q Z short weaker tidied F z at
 
-  pub no-shape : Over [] bs 0 rest j → Barred shape-line Any rest → Refused bs f
-  no-shape o b =
-      stop [] _ (ask (Mesh 0 0) spare-run []) o (formed-bare (Mesh 0 0) (tt, (omega arith, (omega arith, tt)))) refl tt
+  pub no-shape : rest ≡ bs → j ≡ 0 → Barred shape-line Any rest → Refused bs f
+  no-shape e z b =
+      stop [] _ (ask (Mesh 0 0) spare-run []) (over-none bs rest j e z) (formed-bare (Mesh 0 0) (tt, (omega arith, (omega arith, tt)))) refl tt
       (λ p F m. ⊎-elim (λ i. omega (arith, i .0)) (λ i. b (p .shape) (i .1 .0) (F .numbers .0) tt (i .1 .1)) (m .1))
 
-  module _ (x : Shape) (h : All Fits (shape-line x)) where
-    pub no-run : Over (shape-line x ∷ []) bs 0 rest j → Barred run-line Brief rest → Refused bs f
-    no-run o b =
-        stop (shape-line x ∷ []) _ (ask x spare-run []) o (formed-bare x h) refl (tidy-shape x h, tt)
-        (λ p F m. ⊎-elim (λ i. omega (arith, i .0)) (λ i. b (p .run) (i .1 .0) (F .numbers .1 .0) (F .cycles) (i .1 .1)) (m .1))
-
-    pub no-end : (y : Run) (cs : List Cable) → Over (lines (ask x y cs)) bs 0 rest j → Formed 128 (ask x y cs) → (rest ≡ [] → ⊥) → Refused bs f
-    no-end y cs o G b =
-        stop (lines (ask x y cs)) [] (ask x y cs) o G (sym (append-nil (lines (ask x y cs)))) (tidied (ask x y cs) (weaker (ask x y cs) G))
-        (λ p F m.
-        let s = same-length x h y cs G p F (m .0) in
-        ⊎-elim (λ i. b (i .1)) (λ i. omega (arith, i .0)) (m .1))
+  pub no-run : (x : Shape) → All Fits (shape-line x) → Over (shape-line x ∷ []) bs 0 rest j → Barred run-line Brief rest → Refused bs f
+  no-run x h o b =
+      stop (shape-line x ∷ []) _ (ask x spare-run []) o (formed-bare x h) refl (tidy-shape x h, tt)
+      (λ p F m. ⊎-elim (λ i. omega (arith, i .0)) (λ i. b (p .run) (i .1 .0) (F .numbers .1 .0) (F .cycles) (i .1 .1)) (m .1))
 
 -- a cabled layout's count or cable is missing
 module _ (bs rest : List ℕ) (j : ℕ) (f : Fault) (short : length bs ≤ 65536) (m : ℕ) (h : All Fits (shape-line (Cabled m))) (y : Run) (k : All Fits (run-line y)) (c : Brief y) where
@@ -183,35 +237,27 @@ module _ (bs rest : List ℕ) (j : ℕ) (f : Fault) (short : length bs ≤ 65536
       (z .1 .1 ∙ ap (λ v. written v ++ z .1 .0) line))
       (subst (λ A. Next A (suc (suc (suc i))) rest) a (M .1)))
 
--- the count is refused
-pub miscounted : (bs : List ℕ) (s : Lines) (f : Fault) (x : Shape) (y : Run) → length bs ≤ 65536 → All Fits (shape-line x) → All Fits (run-line y) → Brief y → Over (shape-line x ∷ run-line y ∷ []) bs 0 (s .rest .now) (s .read) → Miscounted x s f →
-    Refused bs f
-miscounted bs s f (Mesh w v) y short h k c o b = absurd b
-miscounted bs s f (Cabled m) y short h k c o b =
-    ⊎-elim
-    (λ i. no-count bs (s .rest .now) (s .read) f short m h y k c o (i .0) (i .1))
-    (λ i. over-count bs (s .rest .now) (s .read) f short m h y k c (i .1 .0) (i .1 .1) o (i .0) (i .1 .2) (i .1 .3) (i .1 .4))
-    b
+module _ (bs : List ℕ) (s : Lines) (f : Fault) (y : Run) (short : length bs ≤ 65536) where
+  -- the count is refused
+  pub miscounted : (x : Shape) → Fronted bs x y s → Miscounted x s f → Refused bs f
+  miscounted (Mesh w v) a b = absurd b
+  miscounted (Cabled m) a b =
+      ⊎-elim
+      (λ i. no-count bs (s .rest .now) (s .read) f short m (a .shape) y (a .run) (a .brief) (a .over) (i .0) (i .1))
+      (λ i. over-count bs (s .rest .now) (s .read) f short m (a .shape) y (a .run) (a .brief) (i .1 .0) (i .1 .1) (a .over) (i .0) (i .1 .2) (i .1 .3) (i .1 .4))
+      b
 
--- a cable is refused
-pub miswired : (bs : List ℕ) (s : Lines) (f : Fault) (x : Shape) (y : Run) (n : ℕ) → length bs ≤ 65536 → All Fits (shape-line x) → All Fits (run-line y) → Brief y → Over (shape-line x ∷ run-line y ∷ count-lines x n) bs 0 (s .rest .now) (s .read) → Uncabled x n → n ≤ 128 → Unwired n s f →
-    Refused bs f
-miswired bs s f (Mesh w v) y n short h k c o u l b = absurd (let z : ⊥ = omega (arith, b .3) in z)
-miswired bs s f (Cabled m) y n short h k c o u l b =
-    no-cable bs (b .1) (b .2) f short m h y k c n (b .0) (over-both (shape-line (Cabled m) ∷ run-line y ∷ cables-line n ∷ []) (map cable-line (b .0)) bs (s .rest .now) (b .1) 0 (s .read) (b .2) o (b .5)) (b .6) l (b .3) (b .4) (b .7)
+  -- a cable is refused
+  pub miswired : (x : Shape) (n : ℕ) → Tallied bs x y n s → Unwired n s f → Refused bs f
+  miswired (Mesh w v) n a b = absurd (let z : ⊥ = omega (arith, b .3, a .uncabled) in z)
+  miswired (Cabled m) n a b =
+      no-cable bs (b .1) (b .2) f short m (a .shape) y (a .run) (a .brief) n (b .0)
+      (over-both (shape-line (Cabled m) ∷ run-line y ∷ cables-line n ∷ []) (map cable-line (b .0)) bs (s .rest .now) (b .1) 0 (s .read) (b .2) (a .over) (b .5)) (b .6) (a .most) (b .3) (b .4) (b .7)
 
--- all the lines were read
-module _ (bs : List ℕ) (s t : Lines) (x : Shape) (y : Run) (cs : List Cable) (n : ℕ) (h : All Fits (shape-line x)) (k : All Fits (run-line y)) (c : Brief y) (o : Over (shape-line x ∷ run-line y ∷ count-lines x n) bs 0 (s .rest .now) (s .read)) (u : Uncabled x n) (l : n ≤ 128)
-    (w : Between (map cable-line cs) s t) (g : Fitting cs) (e : length cs ≡ n) where
-  pub whole : Over (lines (ask x y cs)) bs 0 (t .rest .now) (t .read)
-  whole = over-both (shape-line x ∷ run-line y ∷ count-lines x (length cs)) (map cable-line cs) bs (s .rest .now) (t .rest .now) 0 (s .read) (t .read) (subst (λ i. Over (shape-line x ∷ run-line y ∷ count-lines x i) bs 0 (s .rest .now) (s .read)) (sym e) o) w
-
-  pub sound : Formed 128 (ask x y cs)
-  sound = formed x y cs 128 h k c g (subst (Uncabled x) (sym e) u) (omega arith) (omega arith)
-
-  pub finished : (q : Asked) → q ≡ ask x y cs → t .rest .now ≡ [] → Formed 128 q × (bs ≡ asked-text q)
-  unfolding whole sound
-  finished q a z = (
-    subst (Formed 128) (sym a) sound,
-    whole .bytes ∙ ap (λ r. text (lines (ask x y cs)) ++ r) z ∙ append-nil (text (lines (ask x y cs))) ∙ ap (λ p. text (lines p)) (sym a),
-  )
+  -- a line is one too many
+  pub no-end : (x : Shape) (cs : List Cable) → told f ≡ ill-formed (s .read + 1) → Whole bs (ask x y cs) s → (s .rest .now ≡ [] → ⊥) → Refused bs f
+  no-end x cs at a b =
+      stop bs (s .rest .now) (s .read) f short at (lines (ask x y cs)) [] (ask x y cs) (a .over) (a .formed) (sym (append-nil (lines (ask x y cs)))) (tidied (ask x y cs) (weaker (ask x y cs) (a .formed)))
+      (λ p F m.
+      let e = same-length x (a .formed .numbers .0) y cs (a .formed) p F (m .0) in
+      ⊎-elim (λ i. b (i .1)) (λ i. omega (arith, i .0)) (m .1))
