@@ -12,6 +12,7 @@ use Rattle.sheet.specs.Faults.{told, ill-formed, too-many}
 use Rattle.sheet.specs.declared.fault.Fault.{Fault}
 use Rattle.sheet.specs.declared.field.Fields.{Fields}
 
+-- the fields that are left, as they stand
 abbrev pub words : Fields → List (List ℕ)
 words f = cond (f .more) (parted 32 (f .rest .now)) []
 

@@ -35,13 +35,15 @@ Miscounted (Cabled m) s f =
 abbrev pub Counted : Shape → Lines → Lines → Result ℕ Fault → Type 0
 Counted x s t r = Cases r (λ n. Between (count-lines x n) s t × Uncabled x n × (n ≤ 128)) (Miscounted x s)
 
+-- the nodes that the cables name fit 32 bits
 abbrev pub Fitting : List Cable → Type 0
 Fitting cs = All (λ c. All Fits (cable-line c)) cs
 
--- the lines of n cables are read; or of fewer, and no cable follows
+-- fewer than n cables stand in the lines, and no cable follows
 abbrev pub Unwired : ℕ → Lines → Fault → Type 0
 Unwired n s f =
     (cs : List Cable) × (rest : List ℕ) × (j : ℕ) × (length cs < n) × Fitting cs × Over (map cable-line cs) (s .rest .now) (s .read) rest j × (told f ≡ ill-formed (j + 1)) × Barred cable-line Any rest
 
+-- n cables stand in the lines, the first n of 128
 abbrev pub Wired : ℕ → Lines → Lines → Result (List Cable) Fault → Type 0
 Wired n s t r = Cases r (λ cs. Between (map cable-line (take n cs)) s t × Fitting (take n cs) × (length cs ≡ 128)) (Unwired n s)
