@@ -1,17 +1,17 @@
 -- The rounds find the fewest steps.
 use Prim.Native.Nat.{ℕ, zero, suc, _+_, _-_, _<_, _≤_}
 use mathlib.Core.Path.{_≡_, refl, sym, _∙_, ap, subst}
-use mathlib.Core.Bool.{Bool, true, false, cond, _&&_, _||_}
+use mathlib.Core.Bool.{Bool, true, cond, _&&_, _||_}
 use mathlib.Core.Logic.{_⊎_, inl, inr, ⊎-elim}
 use native.Mathlib.Omega.{arith}
 use native.Mathlib.Numerals.{add-one}
 use lib.Dec.{eqb, ltb}
 use lib.ListN.{getD, set, replicate}
 use Rattle.std.proofs.shelf.Lists.{getD-set-same, getD-set-other, getD-replicate, length-replicate}
-use Rattle.std.proofs.shelf.Tests.{eqb-true, eq-eqb, ltb-true, lt-ltb, le-ltb, cond-true, cond-false, cond-both, both-ways, and-from, and-parts, or-cases, or-left, or-right, cases-eq, cases-lt, cases-bool}
+use Rattle.std.proofs.shelf.Tests.{eqb-true, eq-eqb, lt-ltb, le-ltb, cond-true, cond-false, cond-both, both-ways, and-from, and-parts, or-cases, or-left, or-right, cases-eq, cases-lt}
 use Rattle.fabric.specs.declared.parts.Port.{Port}
 use Rattle.fabric.specs.declared.parts.Port.the-variants.{N, E, S, W}
-use Rattle.cabled.specs.Levels.{any, again, Way, Nearest, Found, No-way, Level}
+use Rattle.cabled.specs.Levels.{any, again, Way, Nearest, Found, Level}
 
 any-some : (f : Port → Bool) → any f ≡ true → (p : Port) × (f p ≡ true)
 any-some f e =
@@ -25,51 +25,35 @@ some-any f E e = or-right (f N) _ (or-left _ _ e)
 some-any f S e = or-right (f N) _ (or-right (f E) _ (or-left _ _ e))
 some-any f W e = or-right (f N) _ (or-right (f E) _ (or-right (f S) _ e))
 
--- how many of the first n numbers have a value below k
-count : ℕ → (ℕ → ℕ) → ℕ → ℕ
-count zero f k = 0
-count (suc n) f k = cond (ltb (f n) k) 1 0 + count n f k
+-- the numbers other than v, moved together
+without : ℕ → ℕ → ℕ
+without v x = cond (ltb v x) (x - 1) x
 
-count-le : (n : ℕ) (f : ℕ → ℕ) (k : ℕ) → count n f k ≤ n
-unfolding count
-count-le zero f k = omega arith
-count-le (suc n) f k = cond-both (ltb (f n) k) 1 0 (λ x. x + count n f k ≤ suc n) (λ _. omega (arith, count-le n f k)) (λ _. omega (arith, count-le n f k))
+without-low : (v x : ℕ) → x ≤ v → without v x ≡ x
+unfolding without
+without-low v x l = cond-false (ltb v x) _ _ (le-ltb v x l)
 
-count-mono : (n : ℕ) (f : ℕ → ℕ) (k : ℕ) → count n f k ≤ count n f (suc k)
-unfolding count
-count-mono zero f k = omega arith
-count-mono (suc n) f k =
-    cond-both (ltb (f n) k) 1 0 (λ x. x + count n f k ≤ cond (ltb (f n) (suc k)) 1 0 + count n f (suc k))
-    (λ e. let h = ltb-true _ _ e in let q = cond-true {A = ℕ} (ltb (f n) (suc k)) 1 0 (lt-ltb _ _ (omega arith)) in omega (arith, count-mono n f k, q))
-    (λ _. omega (arith, count-mono n f k))
-
-count-more : (n : ℕ) (f : ℕ → ℕ) (k u : ℕ) → u < n → f u ≡ k → suc (count n f k) ≤ count n f (suc k)
-unfolding count
-count-more zero f k u l e = absurd (let z : ⊥ = omega arith in z)
-count-more (suc n) f k u l e =
-    ⊎-elim
-    (λ a.
-    let w = ap f a in
-    let p = cond-false {A = ℕ} (ltb (f n) k) 1 0 (le-ltb _ _ (omega arith)) in
-    let q = cond-true {A = ℕ} (ltb (f n) (suc k)) 1 0 (lt-ltb _ _ (omega arith)) in
-    omega (arith, count-mono n f k, p, q))
-    (λ a.
-    let i = count-more n f k u (omega arith) e in
-    cond-both (ltb (f n) k) 1 0 (λ x. suc (x + count n f k) ≤ cond (ltb (f n) (suc k)) 1 0 + count n f (suc k))
-    (λ e. let h = ltb-true _ _ e in let q = cond-true {A = ℕ} (ltb (f n) (suc k)) 1 0 (lt-ltb _ _ (omega arith)) in omega (arith, q))
-    (λ _. omega arith))
-    (cases-eq u n)
-
-met-le : (n : ℕ) (f : ℕ → ℕ) (k : ℕ) → ((j : ℕ) → j < k → (u : ℕ) × (u < n) × (f u ≡ j)) → k ≤ count n f k
-met-le n f zero h = omega arith
-met-le n f (suc k) h =
-    let m = h k (omega arith) in
-    let i = met-le n f k (λ j l. h j (omega arith)) in
-    omega (arith, count-more n f k (m .0) (m .1) (m .2))
+without-high : (v x j : ℕ) → v < x → x ≡ suc j → without v x ≡ j
+unfolding without
+without-high v x j l e = cond-true (ltb v x) _ _ (lt-ltb v x l) ∙ omega arith
 
 -- where each value below k is met among n numbers, k is at most n
 few-values : (n : ℕ) (f : ℕ → ℕ) (k : ℕ) → ((j : ℕ) → j < k → (u : ℕ) × (u < n) × (f u ≡ j)) → k ≤ n
-few-values n f k h = omega (arith, met-le n f k h, count-le n f k)
+few-values zero f k h = ⊎-elim (λ l. absurd (let z : ⊥ = omega (arith, h 0 l .1) in z)) (λ l. l) (cases-lt 0 k)
+few-values (suc n) f k h =
+    ⊎-elim
+    (λ l.
+    let i : k - 1 ≤ n = few-values n (λ u. without (f n) (f u)) (k - 1) (λ j q.
+    ⊎-elim
+    (λ a. let m = h j (omega arith) in (m .0, rest (m .0) (m .1) (λ e. omega (arith, m .2)), without-low (f n) (f (m .0)) (omega (arith, m .2)) ∙ m .2))
+    (λ a. let m = h (suc j) (omega arith) in (m .0, rest (m .0) (m .1) (λ e. omega (arith, m .2)), without-high (f n) (f (m .0)) j (omega (arith, m .2)) (m .2)))
+    (cases-lt j (f n))) in
+    omega arith)
+    (λ l. let i : k ≤ n = few-values n f k (λ j q. let m = h j q in (m .0, rest (m .0) (m .1) (λ e. omega (arith, m .2)), m .2)) in omega arith)
+    (cases-lt (f n) k)
+  where
+    rest : (u : ℕ) → u < suc n → (f u ≡ f n → ⊥) → u < n
+    rest u l e = ⊎-elim (λ a. a) (λ a. absurd (e (ap f (let z : u ≡ n = omega arith in z)))) (cases-lt u n)
 
 module _ (next : ℕ → Port → ℕ) (t : ℕ) where
   -- before the first round

@@ -1,17 +1,16 @@
 -- Three nodes and the cable 0 E 1 W.
 use Prim.Native.Nat.{ℕ, zero, suc, _<_}
-use mathlib.Core.Path.{_≡_, refl, sym, _∙_, ap}
+use mathlib.Core.Path.{_≡_, refl, ap}
 use mathlib.Core.List.{List, [], _∷_}
-use mathlib.Core.Logic.{_⊎_, inl, inr, ⊎-elim}
+use mathlib.Core.Logic.{inl, inr}
 use native.Mathlib.Omega.{arith}
-use Rattle.std.proofs.shelf.Tests.{cases-eq}
 use Rattle.fabric.specs.declared.parts.Cable.{Cable}
 use Rattle.fabric.specs.declared.parts.Port.the-variants.{E, W}
 use Rattle.fabric.specs.declared.parts.Slot.{Slot}
 use Rattle.fabric.specs.Layouts.{Plan}
 use Rattle.fabric.specs.Verdicts.{Verdict}
-use Rattle.fabric.specs.Verdicts.Verdict.{granted, refused}
-use Rattle.cabled.specs.Cables.{cable-at, Runs, Joined, Walk, Good, All-good, Cut-off, Cabling}
+use Rattle.fabric.specs.Verdicts.Verdict.{refused}
+use Rattle.cabled.specs.Cables.{cable-at, Runs, Walk, Good, Cut-off, Cabling}
 use Rattle.cabled.specs.Cables.Walk.{stay, cross}
 use Rattle.cabled.specs.Cables.Cabling.{unfair, bad, unreached, cabled}
 
