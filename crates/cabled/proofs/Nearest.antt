@@ -39,7 +39,7 @@ without-high v x j l e = cond-true (ltb v x) _ _ (lt-ltb v x l) ∙ omega arith
 
 -- where each value below k is met among n numbers, k is at most n
 few-values : (n : ℕ) (f : ℕ → ℕ) (k : ℕ) → ((j : ℕ) → j < k → (u : ℕ) × (u < n) × (f u ≡ j)) → k ≤ n
-few-values zero f k h = ⊎-elim (λ l. absurd (let z : ⊥ = omega (arith, h 0 l .1) in z)) (λ l. l) (cases-lt 0 k)
+few-values zero f k h = ⊎-elim (λ l. absurd (omega (arith, h 0 l .1))) (λ l. l) (cases-lt 0 k)
 few-values (suc n) f k h =
     ⊎-elim
     (λ l.
@@ -78,8 +78,8 @@ module _ (next : ℕ → Port → ℕ) (t : ℕ) where
       beside u p q e g = go (found u q) (found (next u p) (inside u p q))
         where
           go : Found next t l u (f u) → Found next t l (next u p) (f (next u p)) → Found next t (l + 1) u (l + 1)
-          go (inl a) b = absurd (let z : ⊥ = omega (arith, a .0) in z)
-          go (inr a) (inr b) = absurd (let z : ⊥ = omega (arith, b .0) in z)
+          go (inl a) b = absurd (omega (arith, a .0))
+          go (inr a) (inr b) = absurd (omega (arith, b .0))
           go (inr a) (inl b) =
               inl (omega arith, (subst (λ k. Way next t k u) (sym (add-one l)) (p, subst (λ k. Way next t k (next u p)) g (b .1 .0)), λ k w. omega (arith, a .1 k w)))
 
@@ -88,7 +88,7 @@ module _ (next : ℕ → Port → ℕ) (t : ℕ) where
       apart u q e none = go (found u q)
         where
           go : Found next t l u (f u) → Found next t (l + 1) u (f u)
-          go (inl a) = absurd (let z : ⊥ = omega (arith, a .0) in z)
+          go (inl a) = absurd (omega (arith, a .0))
           go (inr a) = inr (e, longer)
             where
               step : (k : ℕ) (p : Port) → k ≡ l → Way next t k (next u p) → Found next t l (next u p) (f (next u p)) → ⊥
@@ -126,8 +126,8 @@ module _ (next : ℕ → Port → ℕ) (t : ℕ) where
           go (inl a) =
               let s = subst (Nearest next t v) e (a .1) in
               let p = s .0 .0 in
-              (p, ⊎-elim (λ b. omega (arith, b .1 .1 k (s .0 .1), s .1 (suc (f (next v p))) (p, b .1 .0))) (λ b. absurd (let z : ⊥ = omega (arith, b .1 k (s .0 .1)) in z)) (found (next v p) (inside v p q)))
-          go (inr a) = absurd (let z : ⊥ = omega (arith, a .0) in z)
+              (p, ⊎-elim (λ b. omega (arith, b .1 .1 k (s .0 .1), s .1 (suc (f (next v p))) (p, b .1 .0))) (λ b. absurd (omega (arith, b .1 k (s .0 .1)))) (found (next v p) (inside v p q)))
+          go (inr a) = absurd (omega (arith, a .0))
 
       -- below each level that is met, each level is met
       met : (k v : ℕ) → v < n → f v ≡ k → k < 64 → (j : ℕ) → j ≤ k → (u : ℕ) × (u < n) × (f u ≡ j)
@@ -141,14 +141,14 @@ module _ (next : ℕ → Port → ℕ) (t : ℕ) where
         where
           go : Found next t 63 u (f u) → Found next t 63 (next u p) (f (next u p)) → f u < 64
           go (inl a) b = omega (arith, a .0)
-          go (inr a) (inr b) = absurd (let z : ⊥ = omega (arith, b .0) in z)
+          go (inr a) (inr b) = absurd (omega (arith, b .0))
           go (inr a) (inl b) =
               let top = a .1 (suc (f (next u p))) (p, b .1 .0) in
               let all : 65 ≤ n = few-values n f 65 (λ j i. ⊎-elim (λ c. met (f (next u p)) (next u p) (inside u p q) refl h j (omega arith)) (λ c. (u, q, omega (arith, a .0))) (cases-lt j 64)) in
               omega arith
 
       reached : (k u : ℕ) → u < n → Way next t k u → f u < 64
-      reached zero u q w = ⊎-elim (λ a. omega (arith, a .0)) (λ a. absurd (let z : ⊥ = omega (arith, a .1 0 w) in z)) (found u q)
+      reached zero u q w = ⊎-elim (λ a. omega (arith, a .0)) (λ a. absurd (omega (arith, a .1 0 w))) (found u q)
       reached (suc k) u q w = known u (w .0) q (reached k (next u (w .0)) (inside u (w .0) q) (w .1))
 
       -- after all rounds

@@ -71,8 +71,8 @@ return cs n s t j = (j .0, j .1, turned (cable-at cs (j .0)) s t (j .2))
 -- without cables
 pub wired-none : (k : ℕ) (cs : List Cable) → Wired k 0 cs (replicate 256 None)
 wired-none k cs = record {
-  good = λ i l. absurd (let z : ⊥ = omega arith in z);
-  has = λ s t j. absurd (let z : ⊥ = omega (arith, j .1) in z);
+  good = λ i l. absurd (omega arith);
+  has = λ s t j. absurd (omega (arith, j .1));
   only = λ s t l e. absurd (none-some _ t (getD-replicate 256 (index s) None None (index-lt s l)) e);
 }
 

@@ -33,7 +33,7 @@ good zero l = record {
   two = λ e. omega (arith, ap (λ (x : Slot). x .node) e);
   fresh = λ s t u r j. omega (arith, j .1);
 }
-good (suc i) l = absurd (let z : ⊥ = omega arith in z)
+good (suc i) l = absurd (omega arith)
 
 -- a walk that begins below node 2 stays below it
 ends : {k m n : ℕ} → Walk one k m n → m < 2 → n < 2
@@ -43,7 +43,7 @@ ends (cross {s = s} {t = t} j w) l = ends w (beyond s t (j .0) (j .1) (j .2))
     beyond : (s t : Slot) (i : ℕ) → i < 1 → Runs (cable-at one i) s t → t .node < 2
     beyond s t zero q (inl h) = omega (arith, ap (λ (x : Slot). x .node) (h .1))
     beyond s t zero q (inr h) = omega (arith, ap (λ (x : Slot). x .node) (h .1))
-    beyond s t (suc i) q r = absurd (let z : ⊥ = omega arith in z)
+    beyond s t (suc i) q r = absurd (omega arith)
 
 cut : Cut-off one 2
 cut k w = omega (arith, ends w (omega arith))
@@ -52,7 +52,7 @@ only : (n : ℕ) → n < 3 → Cut-off one n → n ≡ 2
 only zero l c = absurd (c 0 stay)
 only (suc zero) l c = absurd (c 1 (cross {s = near} {t = far} (0, omega arith, inl (refl, refl)) stay))
 only (suc (suc zero)) l c = refl
-only (suc (suc (suc n))) l c = absurd (let z : ⊥ = omega arith in z)
+only (suc (suc (suc n))) l c = absurd (omega arith)
 
 pub right : (p : Plan) → Cabling (λ q. q) 3 one p p (refused 14 (2 ∷ [])) × ((q : Plan) (u : Verdict Unit) → Cabling (λ r. r) 3 one p q u → u ≡ refused 14 (2 ∷ []))
 right p = (unreached (omega arith, omega arith) good 2 (omega arith) cut, other)
