@@ -1,5 +1,5 @@
 -- The layout of one node without cables.
-use Prim.Native.Nat.{ℕ, _<_, _≤_}
+use Prim.Native.Nat.{ℕ}
 use mathlib.Core.Path.{_≡_, refl, _∙_, ap, ap₂, subst}
 use mathlib.Core.Bool.{cond}
 use mathlib.Core.List.{[]}
@@ -47,7 +47,7 @@ alone = λ i. record {
 pub lone-means : Means 1 [] lone
 lone-means = record {
   nodes = refl;
-  plugged = λ s t j. absurd (let z : ⊥ = omega (arith, j .1) in z);
+  plugged = λ s t j. absurd (omega (arith, j .1));
   bare = λ s h. refl;
   distance = λ m n p q. (subst (Walk [] 0 m) (let e : m ≡ n = omega arith in e) stay, λ k w. omega arith);
   within = λ m n p q. omega arith;

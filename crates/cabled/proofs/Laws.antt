@@ -26,10 +26,10 @@ pub pick : (f : Port → Bool) → Pick f (first f)
 pick f = go (f E) (f W) (f N) (f S) refl refl refl refl
   where
     go : (e w n s : Bool) → f E ≡ e → f W ≡ w → f N ≡ n → f S ≡ s → Pick f (cond e (Some E) (cond w (Some W) (cond n (Some N) (cond s (Some S) None))))
-    go true w n s a b c d = (a, λ v l. absurd (let z : ⊥ = omega arith in z))
-    go false true n s a b c d = (b, elim [ N ↦ λ l. absurd (let z : ⊥ = omega arith in z) | E ↦ λ l. a | S ↦ λ l. absurd (let z : ⊥ = omega arith in z) | W ↦ λ l. absurd (let z : ⊥ = omega arith in z) ])
-    go false false true s a b c d = (c, elim [ N ↦ λ l. absurd (let z : ⊥ = omega arith in z) | E ↦ λ l. a | S ↦ λ l. absurd (let z : ⊥ = omega arith in z) | W ↦ λ l. b ])
-    go false false false true a b c d = (d, elim [ N ↦ λ l. c | E ↦ λ l. a | S ↦ λ l. absurd (let z : ⊥ = omega arith in z) | W ↦ λ l. b ])
+    go true w n s a b c d = (a, λ v l. absurd (omega arith))
+    go false true n s a b c d = (b, elim [ N ↦ λ l. absurd (omega arith) | E ↦ λ l. a | S ↦ λ l. absurd (omega arith) | W ↦ λ l. absurd (omega arith) ])
+    go false false true s a b c d = (c, elim [ N ↦ λ l. absurd (omega arith) | E ↦ λ l. a | S ↦ λ l. absurd (omega arith) | W ↦ λ l. b ])
+    go false false false true a b c d = (d, elim [ N ↦ λ l. c | E ↦ λ l. a | S ↦ λ l. absurd (omega arith) | W ↦ λ l. b ])
     go false false false false a b c d = elim [ N ↦ c | E ↦ a | S ↦ d | W ↦ b ]
 
 module _ (k : ℕ) (ts : List (Option Slot)) (ds : List (List ℕ)) (r : ℕ) where
@@ -97,7 +97,7 @@ module _ (k : ℕ) (ts : List (Option Slot)) (ds : List (List ℕ)) (r : ℕ) wh
     absent m n p q z = go (plan .wish m n) refl (wished m n p q)
       where
         go : (o : Option Port) → plan .wish m n ≡ o → Wished plan m n o → plan .wish m n ≡ None
-        go (Some w) e h = absurd (let y : ⊥ = omega (arith, h .0 .1) in y)
+        go (Some w) e h = absurd (omega (arith, h .0 .1))
         go None e h = e
 
     nearer : (m n : ℕ) → m < k → n < k → (plan .distance m n ≡ 0 → ⊥) → (w : Port) × (plan .wish m n ≡ Some w) × Leads plan m n w

@@ -1,17 +1,17 @@
 -- The rounds find the fewest steps.
 use Prim.Native.Nat.{ℕ, zero, suc, _+_, _-_, _<_, _≤_}
 use mathlib.Core.Path.{_≡_, refl, sym, _∙_, ap, subst}
-use mathlib.Core.Bool.{Bool, true, false, cond, _&&_, _||_}
+use mathlib.Core.Bool.{Bool, true, cond, _&&_, _||_}
 use mathlib.Core.Logic.{_⊎_, inl, inr, ⊎-elim}
 use native.Mathlib.Omega.{arith}
 use native.Mathlib.Numerals.{add-one}
 use lib.Dec.{eqb, ltb}
 use lib.ListN.{getD, set, replicate}
 use Rattle.std.proofs.shelf.Lists.{getD-set-same, getD-set-other, getD-replicate, length-replicate}
-use Rattle.std.proofs.shelf.Tests.{eqb-true, eq-eqb, ltb-true, lt-ltb, le-ltb, cond-true, cond-false, cond-both, both-ways, and-from, and-parts, or-cases, or-left, or-right, cases-eq, cases-lt, cases-bool}
+use Rattle.std.proofs.shelf.Tests.{eqb-true, eq-eqb, lt-ltb, le-ltb, cond-true, cond-false, cond-both, both-ways, and-from, and-parts, or-cases, or-left, or-right, cases-eq, cases-lt}
 use Rattle.fabric.specs.declared.parts.Port.{Port}
 use Rattle.fabric.specs.declared.parts.Port.the-variants.{N, E, S, W}
-use Rattle.cabled.specs.Levels.{any, again, Way, Nearest, Found, No-way, Level}
+use Rattle.cabled.specs.Levels.{any, again, Way, Nearest, Found, Level}
 
 any-some : (f : Port → Bool) → any f ≡ true → (p : Port) × (f p ≡ true)
 any-some f e =
@@ -25,51 +25,35 @@ some-any f E e = or-right (f N) _ (or-left _ _ e)
 some-any f S e = or-right (f N) _ (or-right (f E) _ (or-left _ _ e))
 some-any f W e = or-right (f N) _ (or-right (f E) _ (or-right (f S) _ e))
 
--- how many of the first n numbers have a value below k
-count : ℕ → (ℕ → ℕ) → ℕ → ℕ
-count zero f k = 0
-count (suc n) f k = cond (ltb (f n) k) 1 0 + count n f k
+-- the numbers other than v, moved together
+without : ℕ → ℕ → ℕ
+without v x = cond (ltb v x) (x - 1) x
 
-count-le : (n : ℕ) (f : ℕ → ℕ) (k : ℕ) → count n f k ≤ n
-unfolding count
-count-le zero f k = omega arith
-count-le (suc n) f k = cond-both (ltb (f n) k) 1 0 (λ x. x + count n f k ≤ suc n) (λ _. omega (arith, count-le n f k)) (λ _. omega (arith, count-le n f k))
+without-low : (v x : ℕ) → x ≤ v → without v x ≡ x
+unfolding without
+without-low v x l = cond-false (ltb v x) _ _ (le-ltb v x l)
 
-count-mono : (n : ℕ) (f : ℕ → ℕ) (k : ℕ) → count n f k ≤ count n f (suc k)
-unfolding count
-count-mono zero f k = omega arith
-count-mono (suc n) f k =
-    cond-both (ltb (f n) k) 1 0 (λ x. x + count n f k ≤ cond (ltb (f n) (suc k)) 1 0 + count n f (suc k))
-    (λ e. let h = ltb-true _ _ e in let q = cond-true {A = ℕ} (ltb (f n) (suc k)) 1 0 (lt-ltb _ _ (omega arith)) in omega (arith, count-mono n f k, q))
-    (λ _. omega (arith, count-mono n f k))
-
-count-more : (n : ℕ) (f : ℕ → ℕ) (k u : ℕ) → u < n → f u ≡ k → suc (count n f k) ≤ count n f (suc k)
-unfolding count
-count-more zero f k u l e = absurd (let z : ⊥ = omega arith in z)
-count-more (suc n) f k u l e =
-    ⊎-elim
-    (λ a.
-    let w = ap f a in
-    let p = cond-false {A = ℕ} (ltb (f n) k) 1 0 (le-ltb _ _ (omega arith)) in
-    let q = cond-true {A = ℕ} (ltb (f n) (suc k)) 1 0 (lt-ltb _ _ (omega arith)) in
-    omega (arith, count-mono n f k, p, q))
-    (λ a.
-    let i = count-more n f k u (omega arith) e in
-    cond-both (ltb (f n) k) 1 0 (λ x. suc (x + count n f k) ≤ cond (ltb (f n) (suc k)) 1 0 + count n f (suc k))
-    (λ e. let h = ltb-true _ _ e in let q = cond-true {A = ℕ} (ltb (f n) (suc k)) 1 0 (lt-ltb _ _ (omega arith)) in omega (arith, q))
-    (λ _. omega arith))
-    (cases-eq u n)
-
-met-le : (n : ℕ) (f : ℕ → ℕ) (k : ℕ) → ((j : ℕ) → j < k → (u : ℕ) × (u < n) × (f u ≡ j)) → k ≤ count n f k
-met-le n f zero h = omega arith
-met-le n f (suc k) h =
-    let m = h k (omega arith) in
-    let i = met-le n f k (λ j l. h j (omega arith)) in
-    omega (arith, count-more n f k (m .0) (m .1) (m .2))
+without-high : (v x j : ℕ) → v < x → x ≡ suc j → without v x ≡ j
+unfolding without
+without-high v x j l e = cond-true (ltb v x) _ _ (lt-ltb v x l) ∙ omega arith
 
 -- where each value below k is met among n numbers, k is at most n
 few-values : (n : ℕ) (f : ℕ → ℕ) (k : ℕ) → ((j : ℕ) → j < k → (u : ℕ) × (u < n) × (f u ≡ j)) → k ≤ n
-few-values n f k h = omega (arith, met-le n f k h, count-le n f k)
+few-values zero f k h = ⊎-elim (λ l. absurd (omega (arith, h 0 l .1))) (λ l. l) (cases-lt 0 k)
+few-values (suc n) f k h =
+    ⊎-elim
+    (λ l.
+    let i : k - 1 ≤ n = few-values n (λ u. without (f n) (f u)) (k - 1) (λ j q.
+    ⊎-elim
+    (λ a. let m = h j (omega arith) in (m .0, rest (m .0) (m .1) (λ e. omega (arith, m .2)), without-low (f n) (f (m .0)) (omega (arith, m .2)) ∙ m .2))
+    (λ a. let m = h (suc j) (omega arith) in (m .0, rest (m .0) (m .1) (λ e. omega (arith, m .2)), without-high (f n) (f (m .0)) j (omega (arith, m .2)) (m .2)))
+    (cases-lt j (f n))) in
+    omega arith)
+    (λ l. let i : k ≤ n = few-values n f k (λ j q. let m = h j q in (m .0, rest (m .0) (m .1) (λ e. omega (arith, m .2)), m .2)) in omega arith)
+    (cases-lt (f n) k)
+  where
+    rest : (u : ℕ) → u < suc n → (f u ≡ f n → ⊥) → u < n
+    rest u l e = ⊎-elim (λ a. a) (λ a. absurd (e (ap f (let z : u ≡ n = omega arith in z)))) (cases-lt u n)
 
 module _ (next : ℕ → Port → ℕ) (t : ℕ) where
   -- before the first round
@@ -94,8 +78,8 @@ module _ (next : ℕ → Port → ℕ) (t : ℕ) where
       beside u p q e g = go (found u q) (found (next u p) (inside u p q))
         where
           go : Found next t l u (f u) → Found next t l (next u p) (f (next u p)) → Found next t (l + 1) u (l + 1)
-          go (inl a) b = absurd (let z : ⊥ = omega (arith, a .0) in z)
-          go (inr a) (inr b) = absurd (let z : ⊥ = omega (arith, b .0) in z)
+          go (inl a) b = absurd (omega (arith, a .0))
+          go (inr a) (inr b) = absurd (omega (arith, b .0))
           go (inr a) (inl b) =
               inl (omega arith, (subst (λ k. Way next t k u) (sym (add-one l)) (p, subst (λ k. Way next t k (next u p)) g (b .1 .0)), λ k w. omega (arith, a .1 k w)))
 
@@ -104,7 +88,7 @@ module _ (next : ℕ → Port → ℕ) (t : ℕ) where
       apart u q e none = go (found u q)
         where
           go : Found next t l u (f u) → Found next t (l + 1) u (f u)
-          go (inl a) = absurd (let z : ⊥ = omega (arith, a .0) in z)
+          go (inl a) = absurd (omega (arith, a .0))
           go (inr a) = inr (e, longer)
             where
               step : (k : ℕ) (p : Port) → k ≡ l → Way next t k (next u p) → Found next t l (next u p) (f (next u p)) → ⊥
@@ -142,8 +126,8 @@ module _ (next : ℕ → Port → ℕ) (t : ℕ) where
           go (inl a) =
               let s = subst (Nearest next t v) e (a .1) in
               let p = s .0 .0 in
-              (p, ⊎-elim (λ b. omega (arith, b .1 .1 k (s .0 .1), s .1 (suc (f (next v p))) (p, b .1 .0))) (λ b. absurd (let z : ⊥ = omega (arith, b .1 k (s .0 .1)) in z)) (found (next v p) (inside v p q)))
-          go (inr a) = absurd (let z : ⊥ = omega (arith, a .0) in z)
+              (p, ⊎-elim (λ b. omega (arith, b .1 .1 k (s .0 .1), s .1 (suc (f (next v p))) (p, b .1 .0))) (λ b. absurd (omega (arith, b .1 k (s .0 .1)))) (found (next v p) (inside v p q)))
+          go (inr a) = absurd (omega (arith, a .0))
 
       -- below each level that is met, each level is met
       met : (k v : ℕ) → v < n → f v ≡ k → k < 64 → (j : ℕ) → j ≤ k → (u : ℕ) × (u < n) × (f u ≡ j)
@@ -157,14 +141,14 @@ module _ (next : ℕ → Port → ℕ) (t : ℕ) where
         where
           go : Found next t 63 u (f u) → Found next t 63 (next u p) (f (next u p)) → f u < 64
           go (inl a) b = omega (arith, a .0)
-          go (inr a) (inr b) = absurd (let z : ⊥ = omega (arith, b .0) in z)
+          go (inr a) (inr b) = absurd (omega (arith, b .0))
           go (inr a) (inl b) =
               let top = a .1 (suc (f (next u p))) (p, b .1 .0) in
               let all : 65 ≤ n = few-values n f 65 (λ j i. ⊎-elim (λ c. met (f (next u p)) (next u p) (inside u p q) refl h j (omega arith)) (λ c. (u, q, omega (arith, a .0))) (cases-lt j 64)) in
               omega arith
 
       reached : (k u : ℕ) → u < n → Way next t k u → f u < 64
-      reached zero u q w = ⊎-elim (λ a. omega (arith, a .0)) (λ a. absurd (let z : ⊥ = omega (arith, a .1 0 w) in z)) (found u q)
+      reached zero u q w = ⊎-elim (λ a. omega (arith, a .0)) (λ a. absurd (omega (arith, a .1 0 w))) (found u q)
       reached (suc k) u q w = known u (w .0) q (reached k (next u (w .0)) (inside u (w .0) q) (w .1))
 
       -- after all rounds

@@ -1,5 +1,5 @@
 -- A table of ends has exactly the cables that were plugged in.
-use Prim.Native.Nat.{ℕ, _+_, _*_, _<_, _≤_}
+use Prim.Native.Nat.{ℕ, _+_, _<_, _≤_}
 use mathlib.Core.Path.{_≡_, refl, sym, _∙_, ap, subst}
 use mathlib.Core.List.{List}
 use mathlib.Core.Bool.{cond}
@@ -7,7 +7,7 @@ use mathlib.Core.Logic.{_⊎_, inl, inr, ⊎-elim}
 use native.Mathlib.Omega.{arith}
 use borrow.Author.Count.{below-more}
 use lib.Dec.{eqb}
-use lib.ListN.{getD, set, length, replicate}
+use lib.ListN.{set, length, replicate}
 use Rattle.std.proofs.shelf.Lists.{getD-set-same, getD-set-other, getD-replicate, length-set}
 use Rattle.std.proofs.shelf.Tests.{cases-eq}
 use Rattle.std.specs.Options.{valueOr}
@@ -18,7 +18,7 @@ use Rattle.fabric.specs.declared.parts.Port.{Port}
 use Rattle.fabric.specs.declared.parts.Port.the-variants.{N, E, S, W}
 use Rattle.fabric.specs.declared.parts.Slot.{Slot}
 use Rattle.fabric.specs.Ports.{place-of}
-use Rattle.cabled.specs.Cables.{cable-at, Runs, Joined, Good, All-good}
+use Rattle.cabled.specs.Cables.{cable-at, Runs, Joined, Good}
 use Rattle.cabled.specs.Tables.{index, end-at, far-at, Inside, Paired, Wired, Free, Fits, plugged}
 
 port-at : ℕ → Port
@@ -71,8 +71,8 @@ return cs n s t j = (j .0, j .1, turned (cable-at cs (j .0)) s t (j .2))
 -- without cables
 pub wired-none : (k : ℕ) (cs : List Cable) → Wired k 0 cs (replicate 256 None)
 wired-none k cs = record {
-  good = λ i l. absurd (let z : ⊥ = omega arith in z);
-  has = λ s t j. absurd (let z : ⊥ = omega (arith, j .1) in z);
+  good = λ i l. absurd (omega arith);
+  has = λ s t j. absurd (omega (arith, j .1));
   only = λ s t l e. absurd (none-some _ t (getD-replicate 256 (index s) None None (index-lt s l)) e);
 }
 

@@ -1,15 +1,14 @@
 -- Walks over cables, and ways through the ports of a table that has these cables.
-use Prim.Native.Nat.{ℕ, zero, suc, _+_, _<_, _≤_}
-use mathlib.Core.Path.{_≡_, refl, sym, _∙_, ap, subst}
+use Prim.Native.Nat.{ℕ, zero, suc, _<_, _≤_}
+use mathlib.Core.Path.{_≡_, refl, sym, ap, subst}
 use mathlib.Core.List.{List}
-use mathlib.Core.Logic.{_⊎_, inl, inr, ⊎-elim}
+use mathlib.Core.Logic.{⊎-elim}
 use native.Mathlib.Omega.{arith}
 use lib.ListN.{length}
 use Rattle.std.specs.declared.option.Option.{Option}
 use Rattle.fabric.specs.declared.parts.Cable.{Cable}
-use Rattle.fabric.specs.declared.parts.Port.{Port}
 use Rattle.fabric.specs.declared.parts.Slot.{Slot}
-use Rattle.cabled.specs.Cables.{Joined, Walk, Least}
+use Rattle.cabled.specs.Cables.{Walk, Least}
 use Rattle.cabled.specs.Cables.Walk.{stay, cross}
 use Rattle.cabled.specs.Levels.{Way, Nearest}
 use Rattle.cabled.specs.Tables.{far-at, next-at, Wired}

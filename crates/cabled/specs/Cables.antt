@@ -1,5 +1,5 @@
 -- Cables between the ports of nodes: which lists of them make a layout, and what that layout is.
-use Prim.Native.Nat.{ℕ, zero, suc, _<_, _≤_}
+use Prim.Native.Nat.{ℕ, suc, _<_, _≤_}
 use mathlib.Core.Path.{_≡_}
 use mathlib.Core.List.{List, [], _∷_}
 use mathlib.Core.Logic.{_⊎_}
@@ -35,7 +35,7 @@ pub data Walk (cs : List Cable) : ℕ → ℕ → ℕ → Type 0 where
 abbrev pub Least : List Cable → ℕ → ℕ → ℕ → Type 0
 Least cs m n d = Walk cs d m n × ((k : ℕ) → Walk cs k m n → d ≤ k)
 
--- in this order a port is looked for that leads one nearer
+-- the order in which ports are tried for a wish
 abbrev pub rank : Port → ℕ
 rank E = 0
 rank W = 1
@@ -73,12 +73,15 @@ lone = record {
 abbrev pub Fair : ℕ → Type 0
 Fair k = (0 < k) × (k ≤ 64)
 
--- cable i names two ports of the k nodes, neither of which an earlier cable uses
+-- cable i fits between the k nodes and the cables before it
 pub record Good (k : ℕ) (cs : List Cable) (i : ℕ) : Type 0 where
+  -- both ends are at nodes that exist, and they are two ports
   pub there : (s t : Slot) → Runs (cable-at cs i) s t → s .node < k
   pub two : cable-at cs i .one ≡ cable-at cs i .other → ⊥
+  -- no earlier cable uses either port
   pub fresh : (s t u : Slot) → Runs (cable-at cs i) s t → Joined cs i s u → ⊥
 
+-- the first n cables are good
 abbrev pub All-good : ℕ → List Cable → ℕ → Type 0
 All-good k cs n = (i : ℕ) → i < n → Good k cs i
 
@@ -86,9 +89,11 @@ All-good k cs n = (i : ℕ) → i < n → Good k cs i
 abbrev pub Cut-off : List Cable → ℕ → Type 0
 Cut-off cs n = (j : ℕ) → Walk cs j 0 n → ⊥
 
--- what the call that cables k nodes makes of a layout, and what it answers: of the refusals the first that holds
+-- what the call that cables k nodes makes of a layout, and what it answers: of the three refusals the first that holds
 pub data Cabling {A : Type 0} (plan : A → Plan) (k : ℕ) (cs : List Cable) (before : A) : A → Verdict Unit → Type 0 where
   unfair : (Fair k → ⊥) → Cabling plan k cs before before (refused 12 [])
+  -- cable i is the first that is not good
   bad : Fair k → (i : ℕ) → i < length cs → All-good k cs i → (Good k cs i → ⊥) → Cabling plan k cs before before (refused 13 (i ∷ []))
+  -- any node that is cut off may be named
   unreached : Fair k → All-good k cs (length cs) → (n : ℕ) → n < k → Cut-off cs n → Cabling plan k cs before before (refused 14 (n ∷ []))
   cabled : {after : A} → Fair k → All-good k cs (length cs) → ((n : ℕ) → n < k → Cut-off cs n → ⊥) → Means k cs (plan after) → Cabling plan k cs before after (granted tt)

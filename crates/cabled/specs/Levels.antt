@@ -1,4 +1,4 @@
--- How many steps each node is from one, found in rounds; a step from a node is to where one of its ports leads.
+-- How many steps each node is from one, found in rounds. A step leaves a node by a port, so by one without a cable it stays.
 use Prim.Native.Nat.{ℕ, zero, suc, _+_, _<_, _≤_}
 use mathlib.Core.Path.{_≡_}
 use mathlib.Core.Bool.{Bool, cond, _&&_, _||_}

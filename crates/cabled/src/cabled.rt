@@ -1,10 +1,10 @@
 // Nodes joined by cables.
 ghost use Prim.Native.Nat.{_<_, _≤_};
 ghost use mathlib.Core.Path.{_≡_};
-ghost use Rattle.fabric.specs.Refusals.{shown};
-ghost use Rattle.cabled.specs.Cables.{Means, Cabling, lone};
-ghost use Rattle.cabled.specs.Tables.{cabled-plan, leads, Paired, Within, Nearing};
 ghost use mathlib.Core.List.{[]};
+ghost use Rattle.fabric.specs.Refusals.{shown};
+ghost use Rattle.cabled.specs.Cables.{Means, lone, Cabling};
+ghost use Rattle.cabled.specs.Tables.{leads, cabled-plan, Paired, Within, Nearing};
 use super::rounds::NODES;
 use super::rounds::Spans;
 use super::rounds::cut_off;
@@ -142,7 +142,8 @@ mod tests {
         }
     }
 
-    fn round_trip() -> [Cable; NODES] {
+    // Each node's E to the next node's W, and the last node's to the first.
+    fn around() -> [Cable; NODES] {
         let mut cables = [cable(0, Port::E, 0, Port::W); NODES];
         for node in 0..NODES {
             cables[node] = cable(node, Port::E, (node + 1) % NODES, Port::W);
@@ -153,7 +154,7 @@ mod tests {
     #[test]
     fn ring() -> Result<(), Fail> {
         let mut layout = Cabled::new();
-        check_eq(layout.cable(NODES, &round_trip()), Ok(()))?;
+        check_eq(layout.cable(NODES, &around()), Ok(()))?;
         check_eq(layout.reach(), 32)?;
         check_eq(layout.distance(60, 3), 7)?;
         check_eq(layout.wish(0, 32), Some(Port::E))?;

@@ -1,4 +1,4 @@
-// Layouts by cables.
+// Layouts that lists of cables make.
 pub mod cabled;
 mod rounds;
 mod wiring;

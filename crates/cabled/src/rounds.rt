@@ -41,7 +41,7 @@ fn meets(ends: &Ends, nodes: usize, row: &Levels, node: usize, level: u8) -> boo
         || leads_to(ends, row, node, Port::W, level)
 }
 
-// The node's level after one round more: beside the last level it is one further.
+// The node's level after one round more: beside a node of the last level it is one further.
 fn raised(ends: &Ends, nodes: usize, before: &Levels, node: usize, level: u8) -> u8
     requires { ⌜ node < nodes ⌝ ∗ ⌜ level < 63 ⌝ ∗ ⌜ nodes ≤ 64 ⌝ ∗ ⌜ Inside nodes (now ends) ⌝ }
     ensures { λ r. ⌜ r ≡ again (next-at (now (ends .entry))) (λ v. getD (now (before .entry)) v 0) level node ⌝ }
@@ -53,6 +53,7 @@ fn raised(ends: &Ends, nodes: usize, before: &Levels, node: usize, level: u8) ->
     }
 }
 
+// One round for all nodes.
 fn round(ends: &Ends, nodes: usize, before: &Levels, level: u8) -> Levels
     requires { ⌜ level < 63 ⌝ ∗ ⌜ nodes ≤ 64 ⌝ ∗ ⌜ Inside nodes (now ends) ⌝ }
     ensures { λ r. ⌜ ((u : ℕ) → u < nodes → getD r u 0 ≡ again (next-at (now (ends .entry))) (λ v. getD (now (before .entry)) v 0) level u) ⌝ }
@@ -64,7 +65,7 @@ fn round(ends: &Ends, nodes: usize, before: &Levels, level: u8) -> Levels
     row
 }
 
-// The levels of all nodes by their ways to one.
+// The levels of all nodes by their ways to one of them.
 fn levels(ends: &Ends, nodes: usize, to: usize) -> Levels
     requires { ⌜ to < nodes ⌝ ∗ ⌜ nodes ≤ 64 ⌝ ∗ ⌜ Inside nodes (now ends) ⌝ }
     ensures { λ r. ⌜ ((u : ℕ) → u < nodes → Level (next-at (now (ends .entry))) to u (getD r u 0)) ⌝ }
@@ -106,13 +107,14 @@ fn greatest(row: &Levels, nodes: usize) -> u8
     most
 }
 
-// The levels by the ways to each node, and the greatest of them.
+// The distances to each node, a row for each, and the greatest of them.
 #[derive(Clone, Copy)]
 pub(crate) struct Spans {
     pub(crate) distances: [Levels; NODES],
     pub(crate) reach: u8,
 }
 
+// The levels of all nodes by their ways to each node, and the greatest of them.
 pub(crate) fn measure(ends: &Ends, nodes: usize) -> Spans
     requires { ⌜ 0 < nodes ⌝ ∗ ⌜ nodes ≤ 64 ⌝ ∗ ⌜ Inside nodes (now ends) ⌝ }
     ensures exact { λ r. ⌜ ((n : ℕ) → n < nodes → (m : ℕ) → m < nodes → Level (next-at (now (ends .entry))) n m (distance-at (r .distances) m n)) ⌝ }

@@ -11,16 +11,19 @@ use fabric::parts::Slot;
 use fabric::parts::SlotPartialEq;
 use fabric::refusal::Refusal;
 
+const PORTS: usize = 4;
+
+// The ports of 64 nodes.
 pub(crate) const SLOTS: usize = 256;
 
-// For each port, four to a node, the other end of its cable, if there is one.
+// For each port the other end of its cable, if there is one.
 pub(crate) type Ends = [Option<Slot>; SLOTS];
 
 fn place(slot: Slot) -> usize
     requires { ⌜ slot .node < 64 ⌝ }
     ensures { λ r. ⌜ r ≡ index slot ⌝ ∗ ⌜ r < 256 ⌝ }
 {
-    slot.node * 4 + slot.port.index()
+    slot.node * PORTS + slot.port.index()
 }
 
 // The slot to which a port leads: the other end of its cable, or its own.

@@ -1,17 +1,16 @@
 -- Three nodes and the cable 0 E 1 W.
 use Prim.Native.Nat.{ℕ, zero, suc, _<_}
-use mathlib.Core.Path.{_≡_, refl, sym, _∙_, ap}
+use mathlib.Core.Path.{_≡_, refl, ap}
 use mathlib.Core.List.{List, [], _∷_}
-use mathlib.Core.Logic.{_⊎_, inl, inr, ⊎-elim}
+use mathlib.Core.Logic.{inl, inr}
 use native.Mathlib.Omega.{arith}
-use Rattle.std.proofs.shelf.Tests.{cases-eq}
 use Rattle.fabric.specs.declared.parts.Cable.{Cable}
 use Rattle.fabric.specs.declared.parts.Port.the-variants.{E, W}
 use Rattle.fabric.specs.declared.parts.Slot.{Slot}
 use Rattle.fabric.specs.Layouts.{Plan}
 use Rattle.fabric.specs.Verdicts.{Verdict}
-use Rattle.fabric.specs.Verdicts.Verdict.{granted, refused}
-use Rattle.cabled.specs.Cables.{cable-at, Runs, Joined, Walk, Good, All-good, Cut-off, Cabling}
+use Rattle.fabric.specs.Verdicts.Verdict.{refused}
+use Rattle.cabled.specs.Cables.{cable-at, Runs, Walk, Good, Cut-off, Cabling}
 use Rattle.cabled.specs.Cables.Walk.{stay, cross}
 use Rattle.cabled.specs.Cables.Cabling.{unfair, bad, unreached, cabled}
 
@@ -34,7 +33,7 @@ good zero l = record {
   two = λ e. omega (arith, ap (λ (x : Slot). x .node) e);
   fresh = λ s t u r j. omega (arith, j .1);
 }
-good (suc i) l = absurd (let z : ⊥ = omega arith in z)
+good (suc i) l = absurd (omega arith)
 
 -- a walk that begins below node 2 stays below it
 ends : {k m n : ℕ} → Walk one k m n → m < 2 → n < 2
@@ -44,7 +43,7 @@ ends (cross {s = s} {t = t} j w) l = ends w (beyond s t (j .0) (j .1) (j .2))
     beyond : (s t : Slot) (i : ℕ) → i < 1 → Runs (cable-at one i) s t → t .node < 2
     beyond s t zero q (inl h) = omega (arith, ap (λ (x : Slot). x .node) (h .1))
     beyond s t zero q (inr h) = omega (arith, ap (λ (x : Slot). x .node) (h .1))
-    beyond s t (suc i) q r = absurd (let z : ⊥ = omega arith in z)
+    beyond s t (suc i) q r = absurd (omega arith)
 
 cut : Cut-off one 2
 cut k w = omega (arith, ends w (omega arith))
@@ -53,7 +52,7 @@ only : (n : ℕ) → n < 3 → Cut-off one n → n ≡ 2
 only zero l c = absurd (c 0 stay)
 only (suc zero) l c = absurd (c 1 (cross {s = near} {t = far} (0, omega arith, inl (refl, refl)) stay))
 only (suc (suc zero)) l c = refl
-only (suc (suc (suc n))) l c = absurd (let z : ⊥ = omega arith in z)
+only (suc (suc (suc n))) l c = absurd (omega arith)
 
 pub right : (p : Plan) → Cabling (λ q. q) 3 one p p (refused 14 (2 ∷ [])) × ((q : Plan) (u : Verdict Unit) → Cabling (λ r. r) 3 one p q u → u ≡ refused 14 (2 ∷ []))
 right p = (unreached (omega arith, omega arith) good 2 (omega arith) cut, other)

@@ -27,13 +27,13 @@ pub data Answer : Type 0 where
 
 pub data Row : Type 0 where
   is : Answer → Answer → Row
-  -- cabling so many nodes has this outcome
-  cabling : ℕ → List Cable → Verdict Unit → Row
+  -- cabling so many nodes is refused by this number, naming these
+  refuses : ℕ → List Cable → ℕ → List ℕ → Row
 
--- an outcome is right if it is possible, and no other is
+-- a refusal is right where it is an outcome of the call, and the only one
 abbrev pub Right : Row → Type 0
 Right (is a b) = a ≡ b
-Right (cabling k cs v) = (p : Plan) → Cabling (λ q. q) k cs p p v × ((q : Plan) (u : Verdict Unit) → Cabling (λ r. r) k cs p q u → u ≡ v)
+Right (refuses k cs n vs) = (p : Plan) → Cabling (λ q. q) k cs p p (refused n vs) × ((q : Plan) (v : Verdict Unit) → Cabling (λ r. r) k cs p q v → v ≡ refused n vs)
 
 -- three columns and two rows
 abbrev six : Plan
@@ -56,7 +56,7 @@ three = handed (flit 5 3 ∷ None ∷ flit 2 3 ∷ flit 9 1 ∷ []) (Some E ∷ 
 abbrev pub table : List Row
 table =
     -- 0 E 1 W leaves node 2 without a way
-    cabling 3 (record { one = record { node = 0; port = E }; other = record { node = 1; port = W } } ∷ []) (refused 14 (2 ∷ []))
+    refuses 3 (record { one = record { node = 0; port = E }; other = record { node = 1; port = W } } ∷ []) 14 (2 ∷ [])
     ∷ is (number (six .distance 0 5)) (number 3)
     ∷ is (port (six .wish 0 5)) (port (Some E))
     ∷ is (number (six .distance 2 5)) (number 1)

@@ -1,6 +1,5 @@
 use Prim.Native.Nat.{_+_}
 use mathlib.Core.Path.{refl, sym, subst}
-use native.Mathlib.Omega.{arith}
 use Rattle.std.proofs.shelf.Tests.{both-ways}
 use Rattle.cabled.specs.Tables.{Wired}
 use Rattle.cabled.proofs.Plugs.{wired-none, wired-more, good-fits}
