@@ -12,9 +12,10 @@ use Rattle.std.specs.Options.{valueOr}
 use Rattle.std.specs.declared.option.Option.the-variants.{None}
 use Rattle.fabric.specs.declared.parts.Port.{Port}
 use Rattle.fabric.specs.declared.parts.Slot.{Slot}
+use Rattle.fabric.specs.Meshes.{both}
 use Rattle.cabled.specs.Cables.{Walk, Means, lone}
 use Rattle.cabled.specs.Cables.Walk.{stay}
-use Rattle.cabled.specs.Tables.{index, far-at, distance-at, both, wish-at, cabled-plan}
+use Rattle.cabled.specs.Tables.{index, far-at, distance-at, wish-at, cabled-plan}
 use Rattle.cabled.proofs.Plugs.{index-lt}
 
 -- what node 0 answers of itself, it answers of all

@@ -14,8 +14,9 @@ use Rattle.fabric.specs.declared.parts.Port.{Port}
 use Rattle.fabric.specs.declared.parts.Port.the-variants.{N, E, S, W}
 use Rattle.fabric.specs.declared.parts.Slot.{Slot}
 use Rattle.fabric.specs.Layouts.{Plan, Lawful, Leads}
+use Rattle.fabric.specs.Meshes.{both}
 use Rattle.cabled.specs.Cables.{rank, Wished}
-use Rattle.cabled.specs.Tables.{far-at, distance-at, both, leads, first, wish-at, cabled-plan, Paired, Within, Nearing}
+use Rattle.cabled.specs.Tables.{far-at, distance-at, leads, first, wish-at, cabled-plan, Paired, Within, Nearing}
 
 -- what the first port that passes a test says of the ports
 abbrev pub Pick : (Port → Bool) → Option Port → Type 0

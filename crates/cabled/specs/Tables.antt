@@ -1,7 +1,7 @@
 -- What the tables of a cabled layout mean.
 use Prim.Native.Nat.{ℕ, _+_, _*_, _<_, _≤_}
 use mathlib.Core.Path.{_≡_}
-use mathlib.Core.Bool.{Bool, true, cond, _&&_}
+use mathlib.Core.Bool.{Bool, true, cond}
 use mathlib.Core.List.{List, []}
 use lib.Dec.{ltb, eqb}
 use lib.ListN.{getD, set}
@@ -13,6 +13,7 @@ use Rattle.fabric.specs.declared.parts.Port.{Port}
 use Rattle.fabric.specs.declared.parts.Port.the-variants.{N, E, S, W}
 use Rattle.fabric.specs.declared.parts.Slot.{Slot}
 use Rattle.fabric.specs.Layouts.{Plan}
+use Rattle.fabric.specs.Meshes.{both}
 use Rattle.fabric.specs.Ports.{place-of}
 use Rattle.cabled.specs.Cables.{All-good, Joined}
 
@@ -34,9 +35,6 @@ next-at ts m p = far-at ts (record { node = m; port = p }) .node
 -- the table has a row for each node with the distances to it
 abbrev pub distance-at : List (List ℕ) → ℕ → ℕ → ℕ
 distance-at ds m n = getD (getD ds n []) m 0
-
-abbrev pub both : ℕ → ℕ → ℕ → Bool
-both k m n = ltb m k && ltb n k
 
 -- a port of m leads one nearer to n
 abbrev pub leads : List (Option Slot) → List (List ℕ) → ℕ → ℕ → Port → Bool
@@ -74,12 +72,6 @@ Within k ds r = (m n : ℕ) → (m < k) × (n < k) → distance-at ds m n ≤ r
 abbrev pub Nearing : ℕ → List (Option Slot) → List (List ℕ) → Type 0
 Nearing k ts ds = (m n : ℕ) → (m < k) × (n < k) → cond (eqb m n) (eqb (distance-at ds m n) 0) (isSome (wish-at ts ds m n)) ≡ true
 
--- the table has the first n of the cables, which are good, and no others
-pub record Wired (k n : ℕ) (cs : List Cable) (ts : List (Option Slot)) : Type 0 where
-  pub good : All-good k cs n
-  pub has : (s t : Slot) → Joined cs n s t → end-at ts s ≡ Some t
-  pub only : (s t : Slot) → s .node < 64 → end-at ts s ≡ Some t → Joined cs n s t
-
 -- a port of the k nodes is without a cable
 abbrev pub Free : ℕ → List (Option Slot) → Slot → Type 0
 Free k ts s = (s .node < k) × (end-at ts s ≡ None)
@@ -91,3 +83,9 @@ Fits k ts c = (c .one ≡ c .other → ⊥) × Free k ts (c .one) × Free k ts (
 -- one cable more
 abbrev pub plugged : List (Option Slot) → Cable → List (Option Slot)
 plugged ts c = set (set ts (index (c .one)) (Some (c .other))) (index (c .other)) (Some (c .one))
+
+-- the table has the first n of the cables, which are good, and no others
+pub record Wired (k n : ℕ) (cs : List Cable) (ts : List (Option Slot)) : Type 0 where
+  pub good : All-good k cs n
+  pub has : (s t : Slot) → Joined cs n s t → end-at ts s ≡ Some t
+  pub only : (s t : Slot) → s .node < 64 → end-at ts s ≡ Some t → Joined cs n s t

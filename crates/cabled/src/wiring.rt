@@ -19,6 +19,7 @@ pub(crate) const SLOTS: usize = 256;
 // For each port the other end of its cable, if there is one.
 pub(crate) type Ends = [Option<Slot>; SLOTS];
 
+// The place of a port in the table.
 fn place(slot: Slot) -> usize
     requires { ⌜ slot .node < 64 ⌝ }
     ensures { λ r. ⌜ r ≡ index slot ⌝ ∗ ⌜ r < 256 ⌝ }
@@ -50,6 +51,7 @@ fn can_plug(ends: &Ends, nodes: usize, cable: Cable) -> bool
     cable.one != cable.other && is_free(ends, nodes, cable.one) && is_free(ends, nodes, cable.other)
 }
 
+// Puts the cable in.
 fn plug(ends: &mut Ends, cable: Cable)
     requires { ⌜ cable .one .node < 64 ⌝ ∗ ⌜ cable .other .node < 64 ⌝ }
     ensures { λ _. ⌜ now (ends .exit) ≡ plugged (now (ends .entry)) cable ⌝ }
