@@ -1,0 +1,6 @@
+mod Blessed
+mod Chipped
+mod Ordered
+mod Ranked
+mod Serving
+mod Woven
