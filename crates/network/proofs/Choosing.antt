@@ -1,0 +1,236 @@
+-- At one node: the flit that is taken off and the flit that enters, as computed, are the ones that the rules name, and no others are.
+use Prim.Native.Nat.{ℕ, _+_, _≤_, _<_}
+use mathlib.Core.Path.{_≡_, refl, sym, ap, subst, _∙_, fun-ext}
+use mathlib.Core.List.{List, [], _∷_}
+use mathlib.Core.Bool.{Bool, true, false, cond}
+use mathlib.Core.Logic.{_⊎_, inl, inr, ⊎-elim}
+use native.Mathlib.Omega.{arith}
+use lib.Dec.{ltb}
+use Rattle.std.proofs.shelf.Tests.{cases-lt}
+use Rattle.std.proofs.shelf.Ways.{tells}
+use Rattle.std.specs.declared.option.Option.{Option}
+use Rattle.std.specs.declared.option.Option.the-variants.{Some, None}
+use Rattle.fabric.specs.declared.parts.Flit.{Flit}
+use Rattle.fabric.specs.declared.parts.Port.{Port}
+use Rattle.fabric.specs.declared.parts.Port.the-variants.{N, E, S, W}
+use Rattle.fabric.specs.Ports.{place-of}
+use Rattle.bounds.specs.declared.settings.Settings.{Settings}
+use Rattle.network.specs.Log.{packet, word, aim, sent, waiting}
+use Rattle.network.specs.Cycle.{Fabric, Places, State, Destined, Before, Takes, Changed, Remains, Next, First-empty, Lets-in, Filled}
+use Rattle.network.specs.Computed.{due, ahead, better, best, same-port, without, with-flit, or-else, if-empty, gap, next-of, placed}
+use Rattle.network.proofs.Places.{some-none, some-same, pair-some, same-port-itself, port-cases, due-from, due-here}
+
+pub place-same : (p q : Port) → place-of p ≡ place-of q → p ≡ q
+place-same N N e = refl
+place-same N E e = absurd (omega arith)
+place-same N S e = absurd (omega arith)
+place-same N W e = absurd (omega arith)
+place-same E N e = absurd (omega arith)
+place-same E E e = refl
+place-same E S e = absurd (omega arith)
+place-same E W e = absurd (omega arith)
+place-same S N e = absurd (omega arith)
+place-same S E e = absurd (omega arith)
+place-same S S e = refl
+place-same S W e = absurd (omega arith)
+place-same W N e = absurd (omega arith)
+place-same W E e = absurd (omega arith)
+place-same W S e = absurd (omega arith)
+place-same W W e = refl
+
+place-small : (p : Port) → place-of p < 4
+place-small N = omega arith
+place-small E = omega arith
+place-small S = omega arith
+place-small W = omega arith
+
+-- an earlier side, or this one
+earlier : (p q : Port) → place-of q < place-of p + 1 → (place-of q < place-of p) ⊎ (q ≡ p)
+earlier p q h = ⊎-elim inl (λ k. inr (place-same q p (omega arith))) (cases-lt (place-of q) (place-of p))
+
+-- what the test of two flits says
+ahead-yes : (g : ℕ) (f h : Flit) → ahead g f h ≡ true → (f .ticket ≡ g) × (h .ticket ≡ g → f .number < h .number)
+ahead-yes g f h e = (grind (arith, tells), λ k. grind (arith, tells))
+
+ahead-no : (g : ℕ) (f h : Flit) → ahead g f h ≡ false → f .ticket ≡ g → (h .ticket ≡ g) × (h .number ≤ f .number)
+ahead-no g f h e k = (grind (arith, tells), grind (arith, tells))
+
+module _ (g : ℕ) (here : Places) where
+  -- the best of the first k sides
+  abbrev Upto : ℕ → Option (Port × Flit) → Type 0
+  Upto k None = (q : Port) → place-of q < k → here q ≡ None
+  Upto k (Some b) = (here (b .0) ≡ Some (b .1)) × (place-of (b .0) < k) × ((q : Port) (h : Flit) → place-of q < k → here q ≡ Some h → Before g (b .0) (b .1) q h)
+
+  on-this : (p : Port) (f : Flit) (q : Port) (h : Flit) → q ≡ p → here p ≡ Some f → here q ≡ Some h → Before g p f q h
+  on-this p f q h e u v =
+      let w : f ≡ h = some-same (here p) f h u (subst (λ (x : Port). here x ≡ Some h) e v) in
+      record { golden-first = λ t. (ap (λ (x : Flit). x .ticket) w ∙ t, (let y = ap (λ (x : Flit). x .number) w in omega arith)); else-first = λ t. let y : place-of q ≡ place-of p = ap place-of e in omega arith }
+
+  step : (p : Port) (acc : Option (Port × Flit)) → Upto (place-of p) acc → (o : Option Flit) → here p ≡ o → Upto (place-of p + 1) (better g acc p o)
+  step p None u None e = λ q h. ⊎-elim (λ k. u q k) (λ k. subst (λ (x : Port). here x ≡ None) (sym k) e) (earlier p q h)
+  step p None u (Some f) e =
+      (e, omega arith, λ q h k v. ⊎-elim (λ z. some-none (here q) h (u q z) v) (λ z. on-this p f q h z e v) (earlier p q k))
+  step p (Some b) u None e =
+      (u .0, (let i = u .1 in omega arith), λ q h k v. ⊎-elim (λ z. u .2 q h z v) (λ z. some-none (here q) h (subst (λ (x : Port). here x ≡ None) (sym z) e) v) (earlier p q k))
+  step p (Some b) u (Some f) e = go (ahead g f (b .1)) refl
+    where
+      go : (c : Bool) → ahead g f (b .1) ≡ c → Upto (place-of p + 1) (cond c (Some (p, f)) (Some b))
+      go true y =
+          let a = ahead-yes g f (b .1) y in
+          (e, omega arith, λ q h k v. ⊎-elim
+            (λ z.
+            let w = u .2 q h z v in
+            let under : h .ticket ≡ g → f .number < h .number = λ t. let x = w .golden-first t in let y = a .1 (x .0) in omega arith in
+            record {
+              golden-first = λ t. (a .0, (let x = under t in omega arith));
+              else-first = λ t. let x = t (a .0) in let y = under (x .0) in absurd (omega arith);
+            })
+            (λ z. on-this p f q h z e v) (earlier p q k))
+      go false y =
+          (u .0, (let i = u .1 in omega arith), λ q h k v. ⊎-elim
+            (λ z. u .2 q h z v)
+            (λ z.
+            let r : f ≡ h = some-same (here p) f h e (subst (λ (x : Port). here x ≡ Some h) z v) in
+            record {
+              golden-first = λ t. subst (λ (x : Flit). x .ticket ≡ g → (b .1 .ticket ≡ g) × (b .1 .number ≤ x .number)) r (ahead-no g f (b .1) y) t;
+              else-first = λ t. let i = u .1 in let j : place-of q ≡ place-of p = ap place-of z in omega arith;
+            }) (earlier p q k))
+
+  best-of-all : Upto 4 (best g here)
+  best-of-all =
+      step W (better g (better g (better g None N (here N)) E (here E)) S (here S))
+      (step S (better g (better g None N (here N)) E (here E))
+      (step E (better g None N (here N))
+      (step N None (λ q h. absurd (omega arith)) (here N) refl) (here E) refl) (here S) refl) (here W) refl
+
+module _ (g n : ℕ) (slots : Places) where
+  takes-upto : (o : Option (Port × Flit)) → Upto g (λ p. due n (slots p)) 4 o → Takes g n slots o
+  takes-upto None u = λ p f d. some-none (due n (slots p)) f (u p (place-small p)) (due-here n (slots p) f (d .0) (d .1))
+  takes-upto (Some b) u =
+      (due-from n (slots (b .0)) (b .1) (u .0), λ q h d. u .2 q h (place-small q) (due-here n (slots q) h (d .0) (d .1)))
+
+  pub takes-best : Takes g n slots (best g (λ p. due n (slots p)))
+  takes-best = takes-upto (best g (λ p. due n (slots p))) (best-of-all g (λ p. due n (slots p)))
+
+  pub takes-one : (a b : Option (Port × Flit)) → Takes g n slots a → Takes g n slots b → a ≡ b
+  takes-one None None u v = refl
+  takes-one None (Some b) u v = absurd (u (b .0) (b .1) (v .0))
+  takes-one (Some a) None u v = absurd (v (a .0) (a .1) (u .0))
+  takes-one (Some a) (Some b) u v =
+      let x = u .1 (b .0) (b .1) (v .0) in
+      let y = v .1 (a .0) (a .1) (u .0) in
+      let i = x .else-first (y .golden-first) in
+      let j = y .else-first (x .golden-first) in
+      let e : a .0 ≡ b .0 = place-same (a .0) (b .0) (omega arith) in
+      let d : a .1 ≡ b .1 = some-same (slots (b .0)) (a .1) (b .1) (subst (λ (p : Port). slots p ≡ Some (a .1)) e (u .0 .0)) (v .0 .0) in
+      pair-some a (b .0) (b .1) e d
+
+module _ (p : Port) (o : Option Flit) (here : Places) where
+  pub changed-here : Changed p o here (λ q. cond (same-port p q) o (here q))
+  changed-here = record { there = rw (same-port-itself p) refl; others = λ q h. go q h (port-cases p q) }
+    where
+      go : (q : Port) → (q ≡ p → ⊥) → (p ≡ q) ⊎ (same-port p q ≡ false) → cond (same-port p q) o (here q) ≡ here q
+      go q h (inl e) = absurd (h (sym e))
+      go q h (inr e) = rw e refl
+
+  pub changed-one : (a b : Places) → Changed p o here a → Changed p o here b → a ≡ b
+  changed-one a b u v = fun-ext (λ q. go q (port-cases p q))
+    where
+      go : (q : Port) → (p ≡ q) ⊎ (same-port p q ≡ false) → a q ≡ b q
+      go q (inl e) = subst (λ (x : Port). a x ≡ b x) e (u .there ∙ sym (v .there))
+      go q (inr e) =
+          let apart : q ≡ p → ⊥ = λ k. let z : _≡_ {A = Bool} true false = sym (same-port-itself p) ∙ (subst (λ (x : Port). same-port p x ≡ false) k e) in let z : _≡_ {A = ℕ} 0 1 = cc in omega arith in
+          u .others q apart ∙ sym (v .others q apart)
+
+pub remains-without : (b : Option (Port × Flit)) (here : Places) → Remains b here (without b here)
+remains-without None here = λ p. refl
+remains-without (Some b) here = changed-here (b .0) None here
+
+pub remains-one : (b : Option (Port × Flit)) (here x y : Places) → Remains b here x → Remains b here y → x ≡ y
+remains-one None here x y u v = fun-ext (λ p. u p ∙ sym (v p))
+remains-one (Some b) here x y u v = changed-one (b .0) None here x y u v
+
+pub filled-with : (b : Option (Port × Flit)) (here : Places) → Filled b here (with-flit b here)
+filled-with None here = λ p. refl
+filled-with (Some b) here = changed-here (b .0) (Some (b .1)) here
+
+pub filled-one : (b : Option (Port × Flit)) (here x y : Places) → Filled b here x → Filled b here y → x ≡ y
+filled-one None here x y u v = fun-ext (λ p. u p ∙ sym (v p))
+filled-one (Some b) here x y u v = changed-one (b .0) (Some (b .1)) here x y u v
+
+-- the first empty place, if there is one
+abbrev Gap : Places → Option Port → Type 0
+Gap here None = (p : Port) → here p ≡ None → ⊥
+Gap here (Some p) = First-empty here p
+
+gap-law : (here : Places) → Gap here (gap here)
+gap-law here = go (here N) (here E) (here S) (here W) refl refl refl refl
+  where
+    full : (p : Port) (f : Flit) → here p ≡ Some f → here p ≡ None → ⊥
+    full p f u v = some-none (here p) f v u
+
+    go : (a b c d : Option Flit) → here N ≡ a → here E ≡ b → here S ≡ c → here W ≡ d →
+        Gap here (or-else (if-empty a N) (or-else (if-empty b E) (or-else (if-empty c S) (if-empty d W))))
+    go None b c d p q r t = record { empty = p; first = λ x e. omega arith }
+    go (Some f) None c d p q r t = record { empty = q; first = late }
+      where
+        late : (x : Port) → here x ≡ None → 1 ≤ place-of x
+        late N e = absurd (full N f p e)
+        late E e = omega arith
+        late S e = omega arith
+        late W e = omega arith
+    go (Some f) (Some g) None d p q r t = record { empty = r; first = late }
+      where
+        late : (x : Port) → here x ≡ None → 2 ≤ place-of x
+        late N e = absurd (full N f p e)
+        late E e = absurd (full E g q e)
+        late S e = omega arith
+        late W e = omega arith
+    go (Some f) (Some g) (Some h) None p q r t = record { empty = t; first = late }
+      where
+        late : (x : Port) → here x ≡ None → 3 ≤ place-of x
+        late N e = absurd (full N f p e)
+        late E e = absurd (full E g q e)
+        late S e = absurd (full S h r e)
+        late W e = omega arith
+    go (Some f) (Some g) (Some h) (Some i) p q r t = none
+      where
+        none : (x : Port) → here x ≡ None → ⊥
+        none N e = full N f p e
+        none E e = full E g q e
+        none S e = full S h r e
+        none W e = full W i t e
+
+module _ (F : Fabric) (P : Settings) (s : State) (n : ℕ) (here : Places) where
+  lets-gap : (o : Option Port) → Gap here o → (ts : List ℕ) → waiting (P .tickets) n (s .log) ≡ ts → Lets-in P s n here (placed F P s o (next-of F P s ts))
+  lets-gap None e [] w = inl w
+  lets-gap None e (t ∷ ts) w = inr e
+  lets-gap (Some p) e [] w = inl w
+  lets-gap (Some p) e (t ∷ ts) w = (e, record { others = ts; ticket = w; number = refl; destination = refl; its-word = refl; now = refl })
+
+  pub lets-first : Lets-in P s n here (placed F P s (gap here) (next-of F P s (waiting (P .tickets) n (s .log))))
+  lets-first = lets-gap (gap here) (gap-law here) (waiting (P .tickets) n (s .log)) refl
+
+  next-one : (f h : Flit) → Next P s n f → Next P s n h → f ≡ h
+  next-one f h u v =
+      let e : f .ticket ∷ u .others ≡ h .ticket ∷ v .others = sym (u .ticket) ∙ v .ticket in
+      let t : f .ticket ≡ h .ticket = cc in
+      let k : f .number ≡ h .number = u .number ∙ (ap (λ (x : ℕ). sent x (s .log)) t ∙ sym (v .number)) in
+      let d : f .destination ≡ h .destination = u .destination ∙ (ap (λ (x : ℕ). aim (packet x (s .log))) t ∙ sym (v .destination)) in
+      let w : f .word ≡ h .word = u .its-word ∙ ((λ i. word (packet (t i) (s .log)) (k i)) ∙ sym (v .its-word)) in
+      let c : f .entered ≡ h .entered = u .now ∙ sym (v .now) in
+      λ i. record { ticket = t i; number = k i; destination = d i; word = w i; entered = c i }
+
+  first-one : (p q : Port) → First-empty here p → First-empty here q → p ≡ q
+  first-one p q u v = let i = u .first q (v .empty) in let j = v .first p (u .empty) in place-same p q (omega arith)
+
+  -- what enters does so where a packet waits and a place is empty
+  not-none : (b : Port × Flit) → Lets-in P s n here None → Lets-in P s n here (Some b) → ⊥
+  not-none b (inl w) v = let e : [] ≡ b .1 .ticket ∷ v .1 .others = sym w ∙ v .1 .ticket in let z : _≡_ {A = ℕ} 0 1 = cc in omega arith
+  not-none b (inr h) v = h (b .0) (v .0 .empty)
+
+  pub lets-one : (a b : Option (Port × Flit)) → Lets-in P s n here a → Lets-in P s n here b → a ≡ b
+  lets-one None None u v = refl
+  lets-one None (Some b) u v = absurd (not-none b u v)
+  lets-one (Some a) None u v = absurd (not-none a v u)
+  lets-one (Some a) (Some b) u v = pair-some a (b .0) (b .1) (first-one (a .0) (b .0) (u .0) (v .0)) (next-one (a .1) (b .1) (u .1) (v .1))

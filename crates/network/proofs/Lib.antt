@@ -1,0 +1,17 @@
+pub mod Invariant
+pub mod Stand
+pub mod Places
+pub mod Nodes
+pub mod Moving
+pub mod Taking
+pub mod Entering
+pub mod Offering
+pub mod Cycling
+pub mod Running
+pub mod Golden
+pub mod Delivery
+pub mod Alikes
+pub mod Undisturbed
+pub mod Choosing
+pub mod Solving
+pub mod Kept

@@ -1,0 +1,2 @@
+// The network: what one is, and what every run of its calls keeps.
+pub mod event;
