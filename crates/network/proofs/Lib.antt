@@ -15,3 +15,4 @@ pub mod Undisturbed
 pub mod Choosing
 pub mod Solving
 pub mod Kept
+pub mod Granting

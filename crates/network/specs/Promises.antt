@@ -7,7 +7,7 @@ use lib.ListN.{length}
 use Rattle.std.specs.declared.option.Option.the-variants.{Some}
 use Rattle.fabric.specs.declared.parts.Flit.{Flit}
 use Rattle.fabric.specs.declared.parts.Port.{Port}
-use Rattle.fabric.specs.Layouts.{Exists, Lawful}
+use Rattle.fabric.specs.Layouts.{Plan, Exists, Lawful}
 use Rattle.fabric.specs.Verdicts.Verdict.{granted}
 use Rattle.switch.specs.Switches.{Lawful-switch}
 use Rattle.bounds.specs.declared.settings.Settings.{Settings}
@@ -119,11 +119,15 @@ pub record Into-epoch (F : Fabric) (P : Settings) (t k : ℕ) (early : State) (r
 abbrev pub Together : State → State → Flit → Flit → Type 0
 Together s r f g = ((n : ℕ) × (p : Port) × (s .slot n p ≡ Some f) × (r .slot n p ≡ Some g)) ⊎ (Off-once f (s .log) × Off-once g (r .log))
 
+-- once so many cycles are carried out, a flit that entered in this cycle is taken off
+abbrev pub off-by : Plan → Settings → ℕ → ℕ
+off-by p P c = c + 1 + latest p P
+
 -- what is kept by a run that leads to s
 pub record Kept (F : Fabric) (P : Settings) (run : List Call) (s : State) : Type 0 where
   -- in time: a flit that entered is taken off, once and at its destination, once (G + 1) × L more cycles are carried out
   pub delivered : (f : Flit) (n : ℕ) → Stands (entered f n) (s .log) →
-      f .entered + 1 + latest (F .plan) P ≤ s .cycles → Off-once f (s .log)
+      off-by (F .plan) P (f .entered) ≤ s .cycles → Off-once f (s .log)
   -- all accounted for: every flit that entered is taken off or in exactly one slot
   pub accounted : (f : Flit) (n : ℕ) → Stands (entered f n) (s .log) →
       (Off-once f (s .log) × In-no-slot f s) ⊎ (Never-off f (s .log) × In-one-slot f s)
