@@ -1,177 +1,129 @@
--- The laws of the bless switch.
-use Prim.Native.Nat.{ℕ, zero, suc, _<_}
+-- The laws of a switch, for the bless switch from its own law.
+use Prim.Native.Nat.{ℕ, zero, suc, _+_, _*_, _<_}
 use mathlib.Core.Path.{_≡_, refl, sym, _∙_, ap, subst, subst₂}
 use mathlib.Core.List.{List, [], _∷_}
 use mathlib.Core.Logic.{_⊎_, inl, inr}
-use mathlib.Core.Bool.{Bool, true, false, cond, not, _&&_, _||_, true≢false, false≢true}
+use native.Mathlib.Omega.{arith}
+use borrow.Author.Tests.{eq-eqb, ne-eqb}
+use Rattle.std.proofs.shelf.Tests.{cases-lt}
 use Rattle.std.specs.declared.option.Option.{Option}
 use Rattle.std.specs.declared.option.Option.the-variants.{Some, None}
 use Rattle.fabric.specs.declared.parts.Port.{Port}
 use Rattle.fabric.specs.declared.parts.Port.the-variants.{N, E, S, W}
 use Rattle.fabric.specs.declared.parts.Flit.{Flit}
+use Rattle.fabric.specs.Ports.{place-of}
 use Rattle.switch.specs.Switches.{Handing, Golden, Carried, at}
-use Rattle.switch.specs.Sides.{Sides, every, same, without, same-true, same-self, same-or-not}
-use Rattle.switch.specs.Pairings.{Pairs, look}
-use Rattle.switch.specs.Blesses.{later, outranked, better, best, chosen, served, bless-turn}
-use Rattle.switch.proofs.Ranked.{Plain, way, golden-plain, plain-golden, golden-or-plain, Best, best-stays, best-passes, Shared, Alike, carried-alike, shared-way}
+use Rattle.switch.specs.Sides.{same-or-not, place-small}
+use Rattle.switch.specs.Blesses.{standing, Lower, Before, Taken, looked-at, Leaves, later, bless-turn}
+use Rattle.switch.proofs.Ranked.{Best, best-passes, golden-or-plain}
+use Rattle.switch.proofs.Ordered.{some-is, none-some, before-irr, before-trans, rises, leaves-same, bless-lawful}
 
-either : (x : Bool) (a b : Port) → a ≡ b → cond x a b ≡ b
-either true a b e = e
-either false a b e = refl
-
-and-no : (x : Bool) (a b : Port) → cond (x && false) a b ≡ b
-and-no true a b = refl
-and-no false a b = refl
-
-or-yes : (x : Bool) (a b : Port) → cond (x || true) a b ≡ a
-or-yes true a b = refl
-or-yes false a b = refl
-
-look-first : (xs : Pairs) (s b p : Port) → b ≡ s → look ((b, p) ∷ xs) s ≡ p
-look-first xs s b p e = ap (λ x. cond (same s x) p (look xs s)) e ∙ ap (λ x. cond x p (look xs s)) (same-self s)
-
--- of two slots of h, the one to be served first
-abbrev more : Handing → Sides → Port → Port → Port
-more h = better (h .golden) (h .places)
-
-abbrev first : Handing → Sides → Port
-first h = best (h .golden) (h .places)
-
--- how h would have two ordinary flits
-abbrev tied : Handing → Port → Port → Bool
-tied h s r = later (at (h .places) s) (at (h .places) r)
-
-module _ (h : Handing) where
-  module _ (s : Port) (f : Flit) (b : Best h s f) where
-    mine : (r : Port) → more h every s r ≡ s
-    mine r = elim (same-or-not r s) [
-      | inl e ↦ either (way h (tied h s r) s r) r s e
-      | inr n ↦ ap (λ x. cond x r s) (best-stays h s f b (tied h s r) r (n .1))
+-- nothing ranks before the lowest golden flit
+pub bless-leads : (h : Handing) (s : Port) (f : Flit) → Best h s f → (w : Port) → at (h .wishes) s ≡ Some w → bless-turn h .to s ≡ w
+bless-leads h s f best w e = bless-lawful h s f (best .golden .0) .wished w e (λ t. none-before (t .0) (t .1))
+  where
+    none-before : (r : Port) → Before h r s → ⊥
+    none-before r b = elim (same-or-not r s) [
+      | inl e ↦ before-irr h s (subst (λ x. Before h x s) e b)
+      | inr n ↦ before-irr h s (before-trans h s r s
+          (rises h r s _ _ refl refl (b .one) (b .in-one) (best-passes h s f best (later (at (h .places) r) (at (h .places) s)) r (n .1))) b)
     ]
 
-    yours : (r : Port) → more h every r s ≡ s
-    yours r = elim (same-or-not r s) [
-      | inl e ↦ ap (λ x. more h every x s) e ∙ either (way h (tied h s s) s s) s s refl
-      | inr n ↦ ap (λ x. cond x s r) (best-passes h s f b (tied h r s) r (n .1))
+-- a golden flit with this number in this slot
+abbrev golden-at : ℕ → Port → List ℕ
+golden-at n s = 0 ∷ n ∷ place-of s ∷ []
+
+standing-golden : (h : Handing) (f : Flit) (s : Port) → f .ticket ≡ h .golden → standing h f s ≡ golden-at (f .number) s
+standing-golden h f s e = rw (eq-eqb (f .ticket) (h .golden) e)
+
+before-golden : (h : Handing) (r s : Port) (g f : Flit) → Golden h r g → Golden h s f → Lower (golden-at (g .number) r) (golden-at (f .number) s) → Before h r s
+before-golden h r s g f G F l = record {
+  one = g;
+  other = f;
+  in-one = G .0;
+  in-other = F .0;
+  lower = subst₂ Lower (sym (standing-golden h g r (G .1))) (sym (standing-golden h f s (F .1))) l;
+}
+
+-- only golden flits rank before a golden one
+golden-before : (h : Handing) (r s : Port) (f : Flit) → Golden h s f → Before h r s → (g : Flit) × Golden h r g × Lower (golden-at (g .number) r) (golden-at (f .number) s)
+golden-before h r s f F b =
+    let l : Lower (standing h (b .one) r) (golden-at (f .number) s) =
+    subst (Lower (standing h (b .one) r)) (ap (λ (x : Flit). standing h x s) (some-is (b .other) f _ (b .in-other) (F .0)) ∙ standing-golden h f s (F .1)) (b .lower) in
+    elim (golden-or-plain h r) [
+      | inl G ↦ (
+        G .0,
+        G .1,
+        subst (λ (xs : List ℕ). Lower xs (golden-at (f .number) s))
+            (ap (λ (x : Flit). standing h x r) (some-is (b .one) (G .0) _ (b .in-one) (G .1 .0)) ∙ standing-golden h (G .0) r (G .1 .1)) l,
+      )
+      | inr p ↦ absurd (last (rw (ne-eqb (b .one .ticket) (h .golden) (λ e. p (b .one) (b .in-one, e))) at l))
     ]
+  where
+    last : (1 < 0) ⊎ (_≡_ {A = ℕ} 1 0 × Lower (b .one .entered ∷ b .one .ticket ∷ b .one .number ∷ place-of r ∷ []) (f .number ∷ place-of s ∷ [])) → ⊥
+    last (inl l) = omega arith
+    last (inr e) = let z = e .0 in omega arith
 
-  best-first : (s : Port) (f : Flit) → Best h s f → first h every ≡ s
-  best-first N f b = ap (λ x. more h every (more h every x S) W) (mine N f b E) ∙ ap (λ x. more h every x W) (mine N f b S) ∙ mine N f b W
-  best-first E f b = ap (λ x. more h every (more h every x S) W) (yours E f b N) ∙ ap (λ x. more h every x W) (mine E f b S) ∙ mine E f b W
-  best-first S f b = ap (λ x. more h every x W) (yours S f b (more h every N E)) ∙ mine S f b W
-  best-first W f b = yours W f b (more h every (more h every N E) S)
+-- so that they rank alike where they are alike
+carry : (h k : Handing) → Carried h k → (r s : Port) (f : Flit) → Golden h s f → Before h r s → Before k r s
+carry h k there r s f F b =
+    let g = golden-before h r s f F b in
+    let c = there r (g .0) (g .1) in
+    let d = there s f F in
+    before-golden k r s (c .0) (d .0) (c .1) (d .1) (subst₂ (λ m n. Lower (golden-at m r) (golden-at n s)) (sym (c .2)) (sym (d .2)) (g .2))
 
-  first-served : (n : ℕ) (w f : Sides) (s : Port) → first h w ≡ s → look (served (h .golden) (h .places) (h .wishes) (suc n) w f) s ≡ chosen f (at (h .wishes) s)
-  first-served n w f s e =
-      let p = chosen f (at (h .wishes) (first h w)) in
-      look-first (served (h .golden) (h .places) (h .wishes) n (without w (first h w)) (without f p)) s (first h w) p e ∙ ap (λ x. chosen f (at (h .wishes) x)) e
+-- numbers and slots of golden flits as one number
+sinks : (m n : ℕ) (r s : Port) → Lower (golden-at m r) (golden-at n s) → m * 4 + place-of r < n * 4 + place-of s
+sinks m n r s (inl l) = absurd (omega arith)
+sinks m n r s (inr (e, inl l)) = omega (arith, place-small r)
+sinks m n r s (inr (e, inr (d, inl l))) = omega (arith, d)
+sinks m n r s (inr (e, inr (d, inr x))) = absurd (x .1)
 
-  pub bless-leads : (s : Port) (f : Flit) → Best h s f → (w : Port) → at (h .wishes) s ≡ Some w → bless-turn h .to s ≡ w
-  bless-leads s f b w e = first-served 3 every every s (best-first s f b) ∙ ap (chosen every) e
+looked : ℕ → Port
+looked zero = E
+looked (suc zero) = W
+looked (suc (suc zero)) = N
+looked (suc (suc (suc n))) = S
 
--- a golden flit waits in this slot; or none does
-abbrev Front : Handing → Sides → Port → Type 0
-Front h w s = (w s ≡ true) × ((f : Flit) × Golden h s f)
+looked-back : (p : Port) → looked (looked-at p) ≡ p
+unfolding looked
+looked-back N = refl
+looked-back E = refl
+looked-back S = refl
+looked-back W = refl
 
-abbrev Back : Handing → Sides → Port → Type 0
-Back h w s = (w s ≡ false) ⊎ Plain h s
-
-module _ (h : Handing) (w : Sides) where
-  front-or-back : (s : Port) → Front h w s ⊎ Back h w s
-  front-or-back s = go (w s) refl
-    where
-      go : (x : Bool) → w s ≡ x → Front h w s ⊎ Back h w s
-      go true e = elim (golden-or-plain h s) [ inl g ↦ inl (e, g) | inr n ↦ inr (inr n) ]
-      go false e = inr (inl e)
-
-  not-both : (s : Port) → Front h w s → Back h w s → ⊥
-  not-both s a (inl e) = true≢false (sym (a .0) ∙ e)
-  not-both s a (inr n) = n (a .1 .0) (a .1 .1)
-
-  stays : (s r : Port) → Front h w s → Back h w r → more h w s r ≡ s
-  stays s r a (inl e) = rw e
-  stays s r a (inr n) = rw (a .0, golden-plain h (tied h s r) s r (a .1 .0) (a .1 .1) n) (and-no (w r) r s)
-
-  comes : (s r : Port) → Back h w s → Front h w r → more h w s r ≡ r
-  comes s r (inl e) b = rw (b .0, e)
-  comes s r (inr n) b = rw (b .0, plain-golden h (tied h s r) s r (b .1 .0) n (b .1 .1)) (or-yes (not (w s)) r s)
-
-  one-of : (P : Port → Type 0) (x : Bool) (s r : Port) → P s → P r → P (cond x r s)
-  one-of P true s r a b = b
-  one-of P false s r a b = a
-
-  both-back : (s r : Port) → Back h w (more h w s r) → Back h w s × Back h w r
-  both-back s r d = go (front-or-back s) (front-or-back r)
-    where
-      go : Front h w s ⊎ Back h w s → Front h w r ⊎ Back h w r → Back h w s × Back h w r
-      go (inl a) (inl b) = absurd (not-both (more h w s r) (one-of (Front h w) _ s r a b) d)
-      go (inl a) (inr b) = absurd (not-both s a (subst (Back h w) (stays s r a b) d))
-      go (inr a) (inl b) = absurd (not-both r b (subst (Back h w) (comes s r a b) d))
-      go (inr a) (inr b) = (a, b)
-
-  -- if no golden flit is first, none waits
-  none-waits : Back h w (first h w) → (s : Port) → Back h w s
-  none-waits d N = both-back N E (both-back _ S (both-back _ W d .0) .0) .0
-  none-waits d E = both-back N E (both-back _ S (both-back _ W d .0) .0) .1
-  none-waits d S = both-back _ S (both-back _ W d .0) .1
-  none-waits d W = both-back _ W d .1
-
-module _ (h k : Handing) (alike : (s : Port) → Alike h k s s) where
-  module _ (w : Sides) where
-    -- a golden flit that both share waits in these slots, or none waits in either
-    abbrev Level : Port → Port → Type 0
-    Level s r = (Shared h k s r × (w s ≡ true) × (w r ≡ true)) ⊎ (Back h w s × Back k w r)
-
-    level : (s : Port) → Level s s
-    level s = go (w s) refl
-      where
-        go : (x : Bool) → w s ≡ x → Level s s
-        go true e = elim (alike s) [ inl a ↦ inl (a, e, e) | inr n ↦ inr (inr (n .0), inr (n .1)) ]
-        go false e = inr (inl e, inl e)
-
-    both-of : (x : Bool) (s r m n : Port) → Level s m → Level r n → Level (cond x r s) (cond x n m)
-    both-of true s r m n a b = b
-    both-of false s r m n a b = a
-
-    more-level : (s r m n : Port) → Level s m → Level r n → Level (more h w s r) (more k w m n)
-    more-level s r m n (inl a) (inl b) =
-        let x = way k (tied k m n) m n in
-        let in-h : more h w s r ≡ cond x r s = rw (b .1, a .1, shared-way h k (tied h s r) (tied k m n) s m r n (a .0) (b .0)) in
-        let in-k : more k w m n ≡ cond x n m = rw (b .2, a .2) in
-        subst₂ Level (sym in-h) (sym in-k) (both-of x s r m n (inl a) (inl b))
-    more-level s r m n (inl a) (inr b) =
-        subst₂ Level (sym (stays h w s r (a .1, (a .0 .one, a .0 .in-one)) (b .0))) (sym (stays k w m n (a .2, (a .0 .other, a .0 .in-other)) (b .1))) (inl a)
-    more-level s r m n (inr a) (inl b) =
-        subst₂ Level (sym (comes h w s r (a .0) (b .1, (b .0 .one, b .0 .in-one)))) (sym (comes k w m n (a .1) (b .2, (b .0 .other, b .0 .in-other)))) (inl b)
-    more-level s r m n (inr a) (inr b) = inr (one-of h w (Back h w) _ s r (a .0) (b .0), one-of k w (Back k w) _ m n (a .1) (b .1))
-
-    first-level : Level (first h w) (first k w)
-    first-level = more-level _ W _ W (more-level _ S _ S (more-level N E N E (level N) (level E)) (level S)) (level W)
-
-  abbrev goes : Handing → ℕ → Sides → Sides → Port → Port
-  goes l n w f = look (served (l .golden) (l .places) (l .wishes) n w f)
-
-  -- a golden flit takes the same port in both, if the same is served before
-  next-same : (n : ℕ) (w f : Sides) (s b p : Port) → (same s b ≡ false → goes h n (without w b) (without f p) s ≡ goes k n (without w b) (without f p) s)
-      → (c q : Port) → b ≡ c → p ≡ q
-      → cond (same s b) p (goes h n (without w b) (without f p) s) ≡ cond (same s c) q (goes k n (without w c) (without f q) s)
-  next-same n w f s b p more c q e o =
-      subst₂ (λ x y. cond (same s b) p (goes h n (without w b) (without f p) s) ≡ cond (same s x) y (goes k n (without w x) (without f y) s)) e o (go (same s b) refl)
-    where
-      go : (x : Bool) → same s b ≡ x → cond x p (goes h n (without w b) (without f p) s) ≡ cond x p (goes k n (without w b) (without f p) s)
-      go true e = refl
-      go false e = more e
-
-  goes-same : (n : ℕ) (w f : Sides) (s : Port) (g : Flit) → w s ≡ true → Golden h s g → goes h n w f s ≡ goes k n w f s
-  goes-same zero w f s g e G = refl
-  goes-same (suc n) w f s g e G =
-      let b = first h w in
-      let p = chosen f (at (h .wishes) b) in
-      let more = goes-same n (without w b) (without f p) s g in
-      elim (first-level w) [
-        | inl a ↦ next-same n w f s b p (λ o. more (rw o e) G) (first k w) (chosen f (at (k .wishes) (first k w))) (a .0 .same) (ap (chosen f) (a .0 .wish))
-        | inr d ↦ absurd (not-both h w s (e, (g, G)) (none-waits h w (d .0) s))
+-- what is taken, and the wish, settle where a flit leaves
+settled : (T : Port → Type 0) (wish : Option Port) (p q : Port) → Leaves T wish p → Leaves T wish q → p ≡ q
+settled T wish p q a b = elim (same-or-not p q) [ inl e ↦ e | inr n ↦ absurd (go (n .1) wish refl) ]
+  where
+    apart : (p ≡ q → ⊥) → ((w : Port) → wish ≡ Some w → T w) → ⊥
+    apart ne all = elim (cases-lt (looked-at p) (looked-at q)) [
+      | inl l ↦ a .free all (b .first all p l)
+      | inr l ↦ elim (cases-lt (looked-at q) (looked-at p)) [
+        | inl m ↦ b .free all (a .first all q m)
+        | inr m ↦ ne (sym (looked-back p) ∙ ap looked (let e : looked-at p ≡ looked-at q = omega arith in e) ∙ looked-back q)
       ]
+    ]
+
+    out : (v : Port) → wish ≡ Some v → (p ≡ q → ⊥) → T v → ⊥
+    out v e ne t = apart ne (λ w d. subst T (some-is v w wish e d) t)
+
+    go : (p ≡ q → ⊥) → (o : Option Port) → wish ≡ o → ⊥
+    go ne None e = apart ne (λ w d. absurd (none-some w wish e d))
+    go ne (Some v) e = ne (a .wished v e (out v e ne) ∙ sym (b .wished v e (out v e ne)))
 
 pub bless-steady : (h k : Handing) → Carried h k → Carried k h → (s : Port) (f : Flit) → Golden h s f → bless-turn h .to s ≡ bless-turn k .to s
-bless-steady h k there back s f = goes-same h k (carried-alike h k there back) 4 every every s f refl
+bless-steady h k there back s f F = go (suc (f .number * 4 + place-of s)) s f F (omega arith)
+  where
+    go : (n : ℕ) (s : Port) (f : Flit) → Golden h s f → f .number * 4 + place-of s < n → bless-turn h .to s ≡ bless-turn k .to s
+    go zero s f F l = absurd (omega arith)
+    go (suc n) s f F l =
+        let c = there s f F in
+        let same : (r : Port) → Before h r s → bless-turn h .to r ≡ bless-turn k .to r =
+        λ r b. let g = golden-before h r s f F b in go n r (g .0) (g .1) (let m = sinks (g .0 .number) (f .number) r s (g .2) in omega arith) in
+        settled (Taken k (bless-turn k .to) s) (at (k .wishes) s) _ _
+        (leaves-same _ _ (at (k .wishes) s) (bless-turn h .to s)
+        (λ q t. (t .0, carry h k there (t .0) s f F (t .1), sym (same (t .0) (t .1)) ∙ t .2))
+        (λ q t. let b = carry k h back (t .0) s (c .0) (c .1) (t .1) in (t .0, b, same (t .0) b ∙ t .2))
+        (subst (λ o. Leaves (Taken h (bless-turn h .to) s) o (bless-turn h .to s)) (sym (c .4)) (bless-lawful h s f (F .0))))
+        (bless-lawful k s (c .0) (c .1 .0))

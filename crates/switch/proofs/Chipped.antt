@@ -1,18 +1,17 @@
 -- The laws of the chipper switch.
-use Prim.Native.Nat.{ℕ, _<_}
+use Prim.Native.Nat.{ℕ}
 use mathlib.Core.Path.{_≡_, refl, sym, _∙_, ap, subst₂}
-use mathlib.Core.Logic.{_⊎_, inl, inr}
+use mathlib.Core.Logic.{inl, inr}
 use mathlib.Core.Bool.{Bool, true, false, cond, not, Bool·not-not, false≢true, true≢false}
-use Rattle.std.specs.declared.option.Option.{Option}
-use Rattle.std.specs.declared.option.Option.the-variants.{Some, None}
+use Rattle.std.specs.declared.option.Option.the-variants.{Some}
 use Rattle.fabric.specs.declared.parts.Port.{Port}
 use Rattle.fabric.specs.declared.parts.Port.the-variants.{N, E, S, W}
 use Rattle.fabric.specs.declared.parts.Flit.{Flit}
 use Rattle.switch.specs.declared.chipper.Block.{Block}
 use Rattle.switch.specs.declared.chipper.Block.the-variants.{Entry, NorthSouth, EastWest}
-use Rattle.switch.specs.Switches.{Handing, Turn, Golden, Carried, at, Lawful-switch}
+use Rattle.switch.specs.Switches.{Handing, Turn, Golden, Carried, at}
 use Rattle.switch.specs.Chippers.{by-second, wants-second, draw, crossed, halfway, onward, chipper-turn}
-use Rattle.switch.proofs.Ranked.{Plain, way, Best, best-stays, best-passes, lowest-best, Shared, Alike, carried-alike, shared-way, golden-plain, plain-golden, alike-steady}
+use Rattle.switch.proofs.Ranked.{Plain, way, Best, best-stays, best-passes, Alike, carried-alike, shared-way, golden-plain, plain-golden, alike-steady}
 
 -- the ports that an exit block drives
 from-north-south : (w : Port) → false ≡ by-second Entry w → cond (by-second NorthSouth w) S N ≡ w

@@ -1,6 +1,6 @@
 -- The bless switch keeps its law.
-use Prim.Native.Nat.{ℕ, zero, suc, _+_, _<_, _≤_}
-use mathlib.Core.Path.{_≡_, refl, sym, _∙_, ap, subst, subst₂}
+use Prim.Native.Nat.{ℕ, zero, suc, _<_}
+use mathlib.Core.Path.{_≡_, refl, sym, _∙_, ap, subst}
 use mathlib.Core.List.{List, [], _∷_}
 use mathlib.Core.Logic.{_⊎_, inl, inr, ⊎-elim}
 use mathlib.Core.Bool.{Bool, true, false, cond, not, _&&_, _||_, true≢false, false≢true}
@@ -17,11 +17,11 @@ use Rattle.fabric.specs.declared.parts.Flit.{Flit}
 use Rattle.fabric.specs.Ports.{place-of}
 use Rattle.switch.specs.declared.rank.Rank.{Rank}
 use Rattle.switch.specs.declared.rank.Rank.the-variants.{Golden, Ordinary}
-use Rattle.switch.specs.Ranks.{rank-of, rank-at, gives-way}
+use Rattle.switch.specs.Ranks.{rank-of, gives-way}
 use Rattle.switch.specs.Switches.{Handing, at}
-use Rattle.switch.specs.Sides.{Sides, every, same, without, size, same-true, same-self, same-or-not, without-has, none-left, one-less}
+use Rattle.switch.specs.Sides.{Sides, every, same, without, size, same-self, same-or-not, without-has, none-left, one-less}
 use Rattle.switch.specs.Pairings.{look}
-use Rattle.switch.specs.Blesses.{standing-as, standing, Lower, Before, Taken, looked-at, Leaves, Bless-law, sooner, later, outranked, better, best, first-free, chosen, best-waits, chosen-free, served, bless-turn}
+use Rattle.switch.specs.Blesses.{standing-as, standing, Lower, Before, looked-at, Leaves, Bless-law, sooner, outranked, better, best, first-free, chosen, best-waits, chosen-free, served, bless-turn}
 
 -- THE ORDER
 
@@ -39,10 +39,10 @@ lower-trans (x ∷ xs) (y ∷ ys) (z ∷ zs) (inl l) (inr m) = inl (omega (arith
 lower-trans (x ∷ xs) (y ∷ ys) (z ∷ zs) (inr l) (inl m) = inl (omega (arith, l .0))
 lower-trans (x ∷ xs) (y ∷ ys) (z ∷ zs) (inr l) (inr m) = inr (l .0 ∙ m .0, lower-trans xs ys zs (l .1) (m .1))
 
-some-is : (f g : Flit) (o : Option Flit) → o ≡ Some f → o ≡ Some g → f ≡ g
+pub some-is : {A : Type 0} (f g : A) (o : Option A) → o ≡ Some f → o ≡ Some g → f ≡ g
 some-is f g o p q = cc
 
-none-some : (f : Flit) (o : Option Flit) → o ≡ None → o ≡ Some f → ⊥
+pub none-some : {A : Type 0} (f : A) (o : Option A) → o ≡ None → o ≡ Some f → ⊥
 none-some f o e p = let z : _≡_ {A = ℕ} 0 1 = cc in omega arith
 
 -- one more number compared
@@ -81,12 +81,12 @@ module _ (f g : Flit) (s r : Port) where
       inr (refl, not-less (g .entered) (f .entered) _ _ e (λ d. not-less (g .ticket) (f .ticket) _ _ d (λ c. last (g .number) (f .number) _ c (inl l))))
 
 module _ (h : Handing) where
-  before-irr : (s : Port) → Before h s s → ⊥
+  pub before-irr : (s : Port) → Before h s s → ⊥
   before-irr s b =
       lower-irr (standing h (b .one) s)
       (subst (λ (f : Flit). Lower (standing h (b .one) s) (standing h f s)) (some-is (b .other) (b .one) _ (b .in-other) (b .in-one)) (b .lower))
 
-  before-trans : (r s t : Port) → Before h r s → Before h s t → Before h r t
+  pub before-trans : (r s t : Port) → Before h r s → Before h s t → Before h r t
   before-trans r s t b c = record {
     one = b .one;
     other = c .other;
@@ -96,7 +96,7 @@ module _ (h : Handing) where
         (subst (λ (f : Flit). Lower (standing h f s) (standing h (c .other) t)) (some-is (c .one) (b .other) _ (c .in-one) (b .in-other)) (c .lower));
   }
 
-  rises : (s r : Port) (p q : Option Flit) → at (h .places) s ≡ p → at (h .places) r ≡ q → (g : Flit) → p ≡ Some g → outranked (h .golden) p q ≡ true → Before h r s
+  pub rises : (s r : Port) (p q : Option Flit) → at (h .places) s ≡ p → at (h .places) r ≡ q → (g : Flit) → p ≡ Some g → outranked (h .golden) p q ≡ true → Before h r s
   rises s r p None u v g e o = absurd (false≢true o)
   rises s r None (Some k) u v g e o = absurd (none-some g None refl e)
   rises s r (Some f) (Some k) u v g e o = record { one = k; other = f; in-one = v; in-other = u; lower = lower-if f k s r (rank-of (h .golden) f) (rank-of (h .golden) k) o }
@@ -159,7 +159,7 @@ module _ (h : Handing) where
 
 -- THE PORT THAT IS TAKEN
 
-leaves-same : (T U : Port → Type 0) (wish : Option Port) (p : Port) → ((q : Port) → T q → U q) → ((q : Port) → U q → T q) → Leaves T wish p → Leaves U wish p
+pub leaves-same : (T U : Port → Type 0) (wish : Option Port) (p : Port) → ((q : Port) → T q → U q) → ((q : Port) → U q → T q) → Leaves T wish p → Leaves U wish p
 leaves-same T U wish p there back l = record {
   wished = λ w e no. l .wished w e (λ t. no (there w t));
   free = λ all u. l .free (λ w e. back w (all w e)) (back p u);

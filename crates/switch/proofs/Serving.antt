@@ -2,22 +2,21 @@
 use Prim.Native.Nat.{ℕ, zero, suc, _+_, _<_, _≤_}
 use mathlib.Core.Path.{_≡_, refl, sym, _∙_, ap, subst, subst₂, fun-ext}
 use mathlib.Core.List.{List, [], _∷_}
-use mathlib.Core.Logic.{_⊎_, inl, inr}
 use mathlib.Core.Bool.{Bool, true, false, cond}
 use native.Mathlib.Omega.{arith}
 use lib.ListN.{length, getD, set, length-set}
 use borrow.Author.Tests.{eqb-false}
 use lib.Seq.{getD-set-same, getD-set-other}
 use Rattle.std.specs.declared.option.Option.{Option}
-use Rattle.std.specs.declared.option.Option.the-variants.{Some, None}
+use Rattle.std.specs.declared.option.Option.the-variants.{None}
 use Rattle.fabric.specs.declared.parts.Port.{Port}
 use Rattle.fabric.specs.declared.parts.Port.the-variants.{N, E, S, W}
 use Rattle.fabric.specs.declared.parts.Flit.{Flit}
 use Rattle.fabric.specs.Ports.{place-of}
-use Rattle.switch.specs.Switches.{Handing, at, turned}
-use Rattle.switch.specs.Sides.{Sides, every, held, same, without, size, same-true, same-self, same-or-not, none-left, one-less}
-use Rattle.switch.specs.Pairings.{Pairs, look, flipped}
-use Rattle.switch.specs.Blesses.{best, chosen, chosen-free, served, bless-turn}
+use Rattle.switch.specs.Switches.{at}
+use Rattle.switch.specs.Sides.{Sides, every, held, same, without, size, same-true, none-left, one-less, place-small}
+use Rattle.switch.specs.Pairings.{look, flipped}
+use Rattle.switch.specs.Blesses.{best, chosen, chosen-free, served}
 
 -- four places, and one of them written
 four : {A : Type 0} (d : A) (xs : List A) → length xs ≡ 4 → xs ≡ getD xs 0 d ∷ getD xs 1 d ∷ getD xs 2 d ∷ getD xs 3 d ∷ []
@@ -27,12 +26,6 @@ four d (a ∷ b ∷ []) e = absurd (omega arith)
 four d (a ∷ b ∷ c ∷ []) e = absurd (omega arith)
 four d (a ∷ b ∷ c ∷ f ∷ []) e = refl
 four d (a ∷ b ∷ c ∷ f ∷ g ∷ xs) e = absurd (omega arith)
-
-place-small : (q : Port) → place-of q < 4
-place-small N = omega arith
-place-small E = omega arith
-place-small S = omega arith
-place-small W = omega arith
 
 written : {A : Type 0} (d v : A) (xs : List A) (q p : Port) → length xs ≡ 4 → getD (set xs (place-of q) v) (place-of p) d ≡ cond (same p q) v (getD xs (place-of p) d)
 written d v xs q p e = go (same p q) refl

@@ -1,9 +1,9 @@
 -- A block keeps its law, and what four blocks do to four lanes is the chipper's turn.
 use Prim.Native.Nat.{ℕ}
 use mathlib.Core.Path.{_≡_, refl, sym, _∙_, ap}
-use mathlib.Core.Bool.{Bool, true, false, cond, not, true≢false, false≢true}
+use mathlib.Core.Bool.{Bool, true, false, cond, false≢true}
 use mathlib.Core.List.{List, [], _∷_}
-use mathlib.Core.Logic.{_⊎_, inl, inr}
+use mathlib.Core.Logic.{inl, inr}
 use native.Mathlib.Omega.{arith}
 use borrow.Author.Tests.{lt-ltb, le-ltb}
 use Rattle.std.specs.declared.option.Option.{Option}
@@ -108,18 +108,19 @@ module _ (h : Handing) where
       let a′ = ea ∙ sent _ N E in
       let b′ = eb ∙ sent _ S W in
       let c′ = (rw (a′, b′) at ec) ∙ sent _ (halfway h .from N) (halfway h .from S) in
-      let d′ = (rw (a′, b′) at ed) ∙ sent _ (halfway h .from E) (halfway h .from W) in
-      (rw (c′, d′)
-      (joined (crossed h Entry 0 N E) (crossed h Entry 1 S W) (crossed h NorthSouth 2 (halfway h .from N) (halfway h .from S))
-      (crossed h EastWest 3 (halfway h .from E) (halfway h .from W))),
-      record {
-        out-1 = a;
-        out-2 = b;
-        out-3 = c;
-        out-4 = d;
-        block-1 = rw ea (block-lawful Entry (draw h 0) (lane h N) (lane h E));
-        block-2 = rw eb (block-lawful Entry (draw h 1) (lane h S) (lane h W));
-        block-3 = rw ec (block-lawful NorthSouth (draw h 2) (a .0) (b .0));
-        block-4 = rw ed (block-lawful EastWest (draw h 3) (a .1) (b .1));
-        ports = refl;
-      })
+      let d′ = (rw (a′, b′) at ed) ∙ sent _ (halfway h .from E) (halfway h .from W) in (
+        rw (c′, d′)
+            (joined (crossed h Entry 0 N E) (crossed h Entry 1 S W) (crossed h NorthSouth 2 (halfway h .from N) (halfway h .from S))
+            (crossed h EastWest 3 (halfway h .from E) (halfway h .from W))),
+        record {
+          out-1 = a;
+          out-2 = b;
+          out-3 = c;
+          out-4 = d;
+          block-1 = rw ea (block-lawful Entry (draw h 0) (lane h N) (lane h E));
+          block-2 = rw eb (block-lawful Entry (draw h 1) (lane h S) (lane h W));
+          block-3 = rw ec (block-lawful NorthSouth (draw h 2) (a .0) (b .0));
+          block-4 = rw ed (block-lawful EastWest (draw h 3) (a .1) (b .1));
+          ports = refl;
+        },
+      )

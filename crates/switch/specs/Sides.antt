@@ -28,6 +28,12 @@ same p q = eqb (place-of p) (place-of q)
 abbrev pub without : Sides → Port → Sides
 without xs q p = cond (same p q) false (xs p)
 
+pub place-small : (q : Port) → place-of q < 4
+place-small N = omega arith
+place-small E = omega arith
+place-small S = omega arith
+place-small W = omega arith
+
 abbrev pub bit : Bool → ℕ
 bit true = 1
 bit false = 0

@@ -1,6 +1,5 @@
 -- Turns made of turns.
-use mathlib.Core.Path.{_≡_, _∙_, ap}
-use Rattle.fabric.specs.declared.parts.Port.{Port}
+use mathlib.Core.Path.{_∙_, ap}
 use Rattle.switch.specs.Switches.{Turn}
 
 -- one turn, then another

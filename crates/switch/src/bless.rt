@@ -106,3 +106,76 @@ pub impl Switch for Bless as BlessSwitch {
         out
     }
 }
+
+#[cfg(test)]
+mod tests {
+    use super::*;
+    use fabric::parts::FlitDebug;
+    use fabric::parts::FlitPartialEq;
+    use std::test::*;
+
+    const GOLDEN: u16 = 9;
+
+    #[derive(Clone, Copy)]
+    struct Case {
+        places: [Option<Flit>; 4],
+        wishes: [Option<Port>; 4],
+        out: [Option<Flit>; 4],
+    }
+
+    fn flit(ticket: u16, number: u8, entered: u32, word: u32) -> Option<Flit> {
+        Some(Flit {
+            ticket,
+            number,
+            destination: 0,
+            word,
+            entered,
+        })
+    }
+
+    #[test]
+    fn table() -> Result<(), Fail> {
+        let [a, b, c] = [flit(1, 0, 4, 0), flit(2, 0, 3, 0), flit(2, 0, 3, 7)];
+        let [d, x] = [flit(2, 1, 3, 0), flit(3, 0, 3, 0)];
+        let [low, high, twin] = [
+            flit(GOLDEN, 0, 8, 0),
+            flit(GOLDEN, 1, 8, 0),
+            flit(GOLDEN, 1, 2, 0),
+        ];
+        let [e, s, w] = [Some(Port::E), Some(Port::S), Some(Port::W)];
+        let cases = [
+            // by entry cycle, then by number, then by slot order: c, b, d, a
+            Case {
+                places: [a, d, c, b],
+                wishes: [e, e, e, e],
+                out: [d, c, a, b],
+            },
+            // golden flits by number, of one number by slot order, and then the ordinary flit
+            Case {
+                places: [high, twin, low, a],
+                wishes: [s, s, s, s],
+                out: [a, high, low, twin],
+            },
+            // wishes at empty places, a flit without a wish
+            Case {
+                places: [None, c, None, a],
+                wishes: [e, None, w, w],
+                out: [None, c, None, a],
+            },
+            // by ticket, and wishes taken by one without a wish and by one deflected: high, b, x, a
+            Case {
+                places: [a, x, b, high],
+                wishes: [w, e, e, None],
+                out: [x, high, a, b],
+            },
+        ];
+        for case in cases {
+            let golden = GOLDEN as usize;
+            check_eq(
+                Bless.route(case.places, case.wishes, golden, [true; 4]),
+                case.out,
+            )?;
+        }
+        Ok(())
+    }
+}

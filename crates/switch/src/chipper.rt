@@ -109,3 +109,81 @@ pub impl Switch for Chipper as ChipperSwitch {
         [n.flit, e.flit, s.flit, w.flit]
     }
 }
+
+#[cfg(test)]
+mod tests {
+    use super::*;
+    use fabric::parts::FlitDebug;
+    use fabric::parts::FlitPartialEq;
+    use std::test::*;
+
+    const GOLDEN: u16 = 9;
+
+    #[derive(Clone, Copy)]
+    struct Case {
+        places: [Option<Flit>; 4],
+        wishes: [Option<Port>; 4],
+        draws: [bool; 4],
+        out: [Option<Flit>; 4],
+    }
+
+    fn flit(ticket: u16, number: u8, word: u32) -> Option<Flit> {
+        Some(Flit {
+            ticket,
+            number,
+            destination: 0,
+            word,
+            entered: 0,
+        })
+    }
+
+    #[test]
+    fn table() -> Result<(), Fail> {
+        let [a, b, c, d] = [flit(1, 0, 0), flit(2, 0, 0), flit(3, 0, 0), flit(4, 0, 0)];
+        let [low, high, twin] = [flit(GOLDEN, 0, 0), flit(GOLDEN, 1, 0), flit(GOLDEN, 1, 7)];
+        let [n, e, s, w] = [Some(Port::N), Some(Port::E), Some(Port::S), Some(Port::W)];
+        let cases = [
+            // four ordinary flits: the first inputs win, then the second, then by block
+            Case {
+                places: [a, b, c, d],
+                wishes: [n, n, n, n],
+                draws: [false; 4],
+                out: [a, b, c, d],
+            },
+            Case {
+                places: [a, b, c, d],
+                wishes: [n, n, n, n],
+                draws: [true; 4],
+                out: [d, c, b, a],
+            },
+            Case {
+                places: [a, b, c, d],
+                wishes: [w, e, s, n],
+                draws: [false, true, false, true],
+                out: [b, c, d, a],
+            },
+            // the lower golden number, and golden before ordinary
+            Case {
+                places: [high, low, a, None],
+                wishes: [e, e, e, None],
+                draws: [false; 4],
+                out: [high, low, None, a],
+            },
+            // two golden flits of one number, a wish at an empty place, a flit without a wish
+            Case {
+                places: [high, twin, None, a],
+                wishes: [w, w, n, None],
+                draws: [true; 4],
+                out: [twin, None, a, high],
+            },
+        ];
+        for case in cases {
+            let golden = GOLDEN as usize;
+            check_eq(
+                Chipper.route(case.places, case.wishes, golden, case.draws),
+                case.out,
+            )?;
+        }
+        Ok(())
+    }
+}

@@ -1,19 +1,25 @@
 -- Worked examples: beside each question that the definitions answer, the answer worked out by hand.
 use Prim.Native.Nat.{ℕ}
 use mathlib.Core.Path.{_≡_}
+use mathlib.Core.Bool.{Bool, true}
 use mathlib.Core.List.{List, [], _∷_}
 use Rattle.std.specs.declared.option.Option.{Option}
-use Rattle.std.specs.declared.option.Option.the-variants.{Some}
+use Rattle.std.specs.declared.option.Option.the-variants.{Some, None}
 use Rattle.fabric.specs.declared.parts.Port.{Port}
-use Rattle.fabric.specs.declared.parts.Port.the-variants.{E, S}
+use Rattle.fabric.specs.declared.parts.Port.the-variants.{N, E, S, W}
 use Rattle.fabric.specs.declared.parts.Slot.{Slot}
+use Rattle.fabric.specs.declared.parts.Flit.{Flit}
 use Rattle.fabric.specs.Layouts.{Plan}
 use Rattle.fabric.specs.Meshes.{mesh-plan}
+use Rattle.switch.specs.Switches.{Handing, handed}
+use Rattle.switch.specs.Chippers.{chipper-turn}
+use Rattle.switch.specs.Blesses.{bless-turn}
 
 pub data Answer : Type 0 where
   number : ℕ → Answer
   port : Option Port → Answer
   slot : Slot → Answer
+  ports : List Port → Answer
 
 pub record Row : Type 0 where
   pub defined : Answer
@@ -29,6 +35,20 @@ is a b = record { defined = a; worked = b }
 abbrev six : Plan
 six = mesh-plan 3 2
 
+abbrev flit : ℕ → ℕ → Option Flit
+flit ticket entered = Some (record { ticket = ticket; number = 0; destination = 0; word = 0; entered = entered })
+
+abbrev ones : List Bool
+ones = true ∷ true ∷ true ∷ true ∷ []
+
+-- tickets 5 and 6 in slots N and E, both wishing N
+abbrev pair : ℕ → Handing
+pair golden = handed (flit 5 0 ∷ flit 6 0 ∷ None ∷ None ∷ []) (Some N ∷ Some N ∷ None ∷ None ∷ []) golden ones
+
+-- tickets 5, 2 and 9, which entered in cycles 3, 3 and 1, in slots N, S and W, all wishing E
+abbrev three : Handing
+three = handed (flit 5 3 ∷ None ∷ flit 2 3 ∷ flit 9 1 ∷ []) (Some E ∷ None ∷ Some E ∷ Some E ∷ []) 0 ones
+
 abbrev pub table : List Row
 table =
     is (number (six .distance 0 5)) (number 3)
@@ -36,4 +56,8 @@ table =
     ∷ is (number (six .distance 2 5)) (number 1)
     ∷ is (port (six .wish 2 5)) (port (Some S))
     ∷ is (slot (six .far 2 E)) (slot (record { node = 2; port = E }))
+    -- both ordinary, then that in slot N golden
+    ∷ is (ports (chipper-turn (pair 0) .to E ∷ chipper-turn (pair 0) .to N ∷ [])) (ports (N ∷ E ∷ []))
+    ∷ is (ports (chipper-turn (pair 5) .to N ∷ chipper-turn (pair 5) .to E ∷ [])) (ports (N ∷ E ∷ []))
+    ∷ is (ports (bless-turn three .to N ∷ bless-turn three .to S ∷ bless-turn three .to W ∷ [])) (ports (N ∷ W ∷ E ∷ []))
     ∷ []

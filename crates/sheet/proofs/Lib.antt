@@ -1,0 +1,7 @@
+mod Aligned
+mod Asking
+mod Exits
+mod Numbers
+mod Parting
+mod Stopping
+mod Tidy
