@@ -76,25 +76,31 @@ module _ (g : ℕ) (here : Places) where
     where
       go : (c : Bool) → ahead g f (b .1) ≡ c → Upto (place-of p + 1) (cond c (Some (p, f)) (Some b))
       go true y =
-          let a = ahead-yes g f (b .1) y in
-          (e, omega arith, λ q h k v. ⊎-elim
-            (λ z.
-            let w = u .2 q h z v in
-            let under : h .ticket ≡ g → f .number < h .number = λ t. let x = w .golden-first t in let y = a .1 (x .0) in omega arith in
-            record {
-              golden-first = λ t. (a .0, (let x = under t in omega arith));
-              else-first = λ t. let x = t (a .0) in let y = under (x .0) in absurd (omega arith);
-            })
-            (λ z. on-this p f q h z e v) (earlier p q k))
-      go false y =
-          (u .0, (let i = u .1 in omega arith), λ q h k v. ⊎-elim
+          let a = ahead-yes g f (b .1) y in (
+            e,
+            omega arith,
+            λ q h k v. ⊎-elim
+                (λ z.
+                let w = u .2 q h z v in
+                let under : h .ticket ≡ g → f .number < h .number = λ t. let x = w .golden-first t in let y = a .1 (x .0) in omega arith in
+                record {
+                  golden-first = λ t. (a .0, (let x = under t in omega arith));
+                  else-first = λ t. let x = t (a .0) in let y = under (x .0) in absurd (omega arith);
+                })
+                (λ z. on-this p f q h z e v) (earlier p q k),
+          )
+      go false y = (
+        u .0,
+        (let i = u .1 in omega arith),
+        λ q h k v. ⊎-elim
             (λ z. u .2 q h z v)
             (λ z.
             let r : f ≡ h = some-same (here p) f h e (subst (λ (x : Port). here x ≡ Some h) z v) in
             record {
               golden-first = λ t. subst (λ (x : Flit). x .ticket ≡ g → (b .1 .ticket ≡ g) × (b .1 .number ≤ x .number)) r (ahead-no g f (b .1) y) t;
               else-first = λ t. let i = u .1 in let j : place-of q ≡ place-of p = ap place-of z in omega arith;
-            }) (earlier p q k))
+            }) (earlier p q k),
+      )
 
   best-of-all : Upto 4 (best g here)
   best-of-all =

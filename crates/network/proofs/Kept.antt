@@ -59,10 +59,13 @@ module _ (F : Fabric) (law : Lawful (F .plan)) where
     where
       z : Sits F P (after F P earlier .log) n f
       z = invariant F P law earlier .sits n p f e
+
       g : Grew F P (after F P earlier) (after F P (more ++ earlier))
       g = grew F P more earlier
+
       stood : Stands (entered f (z .from)) (after F P (more ++ earlier) .log)
       stood = subst (λ (l : Log). Stands (entered f (z .from)) l) (sym (g .log)) (stands-below (g .newer) (z .was-entered))
+
       go : (Off-once f (after F P (more ++ earlier) .log) × In-no-slot f (after F P (more ++ earlier))) ⊎ (Never-off f (after F P (more ++ earlier) .log) × In-one-slot f (after F P (more ++ earlier))) →
           Off-once f (after F P (more ++ earlier) .log)
       go (inl k) = k .0
@@ -84,6 +87,7 @@ module _ (F : Fabric) (law : Lawful (F .plan)) where
           let z = alike .0 n p f u golden in
           let w : z .0 ≡ g = some-same (after F Q earlier′ .slot n p) (z .0) g (z .1) v in
           sym (ap (λ (x : Flit). x .ticket) w) ∙ z .2
+
       go : Tied f g (after F P (more ++ earlier) .slot) (after F Q (more′ ++ earlier′) .slot) → Together (after F P (more ++ earlier)) (after F Q (more′ ++ earlier′)) f g
       go (inl z) = inl z
       go (inr z) = inr (off-since P earlier more n p f u (z .0), off-since Q earlier′ more′ n p g v (z .1))

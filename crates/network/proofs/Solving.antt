@@ -57,11 +57,11 @@ module _ (F : Fabric) (P : Settings) where
         let c : Works F P s n (computed n) = work-is n in
         let a : w .takes ≡ taken F P s n = takes-one (golden-in F P (s .cycles)) n (s .slot n) (w .takes) (taken F P s n) (k .taking-off) (c .taking-off) in
         let b : w .remaining ≡ left F P s n =
-          remains-one (taken F P s n) (s .slot n) (w .remaining) (left F P s n)
-          (subst (λ (o : Option (Port × Flit)). Remains o (s .slot n) (w .remaining)) a (k .remaining)) (c .remaining) in
+        remains-one (taken F P s n) (s .slot n) (w .remaining) (left F P s n)
+        (subst (λ (o : Option (Port × Flit)). Remains o (s .slot n) (w .remaining)) a (k .remaining)) (c .remaining) in
         let d : w .lets-in ≡ entering F P s n =
-          lets-one F P s n (left F P s n) (w .lets-in) (entering F P s n)
-          (subst (λ (x : Places). Lets-in P s n x (w .lets-in)) b (k .entering)) (c .entering) in
+        lets-one F P s n (left F P s n) (w .lets-in) (entering F P s n)
+        (subst (λ (x : Places). Lets-in P s n x (w .lets-in)) b (k .entering)) (c .entering) in
         let filled : Filled (entering F P s n) (left F P s n) (w .ready) = subst (λ (o : Option (Port × Flit)). Filled o (left F P s n) (w .ready)) d (subst (λ (x : Places). Filled (w .lets-in) x (w .ready)) b (k .filled)) in
         let e : w .ready ≡ ready F P s n = filled-one (entering F P s n) (left F P s n) (w .ready) (ready F P s n) filled (c .filled) in
         let p = k .places ∙ (ap (λ (x : Places). in-slot-order x) e ∙ sym (c .places)) in
@@ -69,7 +69,10 @@ module _ (F : Fabric) (P : Settings) where
         let g = k .golden ∙ sym (c .golden) in
         let r = k .drawing ∙ sym (c .drawing) in
         λ i. record {
-          takes = a i; remaining = b i; lets-in = d i; ready = e i;
+          takes = a i;
+          remaining = b i;
+          lets-in = d i;
+          ready = e i;
           handing = record { places = p i; wishes = q i; golden = g i; draws = r i };
         }
 
@@ -153,9 +156,10 @@ module _ (F : Fabric) (P : Settings) where
         (ap offering (sym e), ap (λ (v : Verdict (Unit {0})). decided v (with-log F P s (offered (ticket F P n o) (record { destination = d; words = ws }))) s) (sym e))
     served-one (offer-refused {n} {o} {d} {k} {ws} {vs} e) =
         (ap offering (sym e), ap (λ (v : Verdict (Unit {0})). decided v (with-log F P s (offered (ticket F P n o) (record { destination = d; words = ws }))) s) (sym e))
-    served-one (cycle-granted {q} {r} e c) =
-        (ap (λ (l : Log). cycling (granted (count-off l)) (put-all q (told l))) (happened-is s law clear r c) ∙ ap (answers q) (sym e),
-          cycle-one s law clear r c ∙ ap (λ (v : Verdict (Unit {0})). decided v (cycled F P s) s) (sym e))
+    served-one (cycle-granted {q} {r} e c) = (
+      ap (λ (l : Log). cycling (granted (count-off l)) (put-all q (told l))) (happened-is s law clear r c) ∙ ap (answers q) (sym e),
+      cycle-one s law clear r c ∙ ap (λ (v : Verdict (Unit {0})). decided v (cycled F P s) s) (sym e),
+    )
     served-one (cycle-refused {q} {k} {vs} e) = (ap (answers q) (sym e), ap (λ (v : Verdict (Unit {0})). decided v (cycled F P s) s) (sym e))
     served-one (collect-granted {r} {n} {o} {k} {memory} e) = (ap (brings n o memory) (sym e), ap (leaves r n o) (sym e))
     served-one (collect-refused {r} {n} {o} {k} {memory} {vs} e) = (ap (brings n o memory) (sym e), ap (leaves r n o) (sym e))

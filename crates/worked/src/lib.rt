@@ -9,5 +9,5 @@ pub fn rows() -> usize
     ensures right { λ _. ⌜ All Right table ⌝ }
     ensures count { λ r. ⌜ r ≡ length table ⌝ }
 {
-    8
+    15
 }
