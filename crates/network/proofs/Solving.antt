@@ -87,7 +87,7 @@ module _ (F : Fabric) (P : Settings) where
     Clear = (m : ℕ) (q : Port) → Missing (F .plan) m → arriving F P s m q ≡ None
 
     module _ (law : Lawful (F .plan)) (clear : Clear) where
-      cycle-is : Cycle F P s (cycled F P s)
+      pub cycle-is : Cycle F P s (cycled F P s)
       unfolding computed arriving
       cycle-is = record {
         work = computed;
@@ -102,7 +102,7 @@ module _ (F : Fabric) (P : Settings) where
       happened-is : (r : State) (c : Cycle F P s r) → happened c ≡ done F P s (F .plan .nodes)
       happened-is r c = news-done (c .work) (F .plan .nodes) (λ n h. work-one n (c .work n) (c .works n h))
 
-      cycle-one : (r : State) → Cycle F P s r → r ≡ cycled F P s
+      pub cycle-one : (r : State) → Cycle F P s r → r ≡ cycled F P s
       unfolding arriving computed
       cycle-one r c = λ i. record { cycles = c .counted i; slot = λ m q. same m q (cases-lt m (F .plan .nodes)) i; log = logged i }
         where
