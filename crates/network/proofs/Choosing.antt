@@ -5,7 +5,6 @@ use mathlib.Core.List.{List, [], _∷_}
 use mathlib.Core.Bool.{Bool, true, false, cond}
 use mathlib.Core.Logic.{_⊎_, inl, inr, ⊎-elim}
 use native.Mathlib.Omega.{arith}
-use lib.Dec.{ltb}
 use Rattle.std.proofs.shelf.Tests.{cases-lt}
 use Rattle.std.proofs.shelf.Ways.{tells}
 use Rattle.std.specs.declared.option.Option.{Option}
@@ -16,7 +15,7 @@ use Rattle.fabric.specs.declared.parts.Port.the-variants.{N, E, S, W}
 use Rattle.fabric.specs.Ports.{place-of}
 use Rattle.bounds.specs.declared.settings.Settings.{Settings}
 use Rattle.network.specs.Log.{packet, word, aim, sent, waiting}
-use Rattle.network.specs.Cycle.{Fabric, Places, State, Destined, Before, Takes, Changed, Remains, Next, First-empty, Lets-in, Filled}
+use Rattle.network.specs.Cycle.{Fabric, Places, State, Before, Takes, Changed, Remains, Next, First-empty, Lets-in, Filled}
 use Rattle.network.specs.Computed.{due, ahead, better, best, same-port, without, with-flit, or-else, if-empty, gap, next-of, placed}
 use Rattle.network.proofs.Places.{some-none, some-same, pair-some, same-port-itself, port-cases, due-from, due-here}
 

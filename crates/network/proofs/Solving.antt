@@ -1,6 +1,6 @@
 -- The computed cycle, outcome and run are the one solution of the relations.
-use Prim.Native.Nat.{ℕ, zero, suc, _+_, _≤_, _<_}
-use mathlib.Core.Path.{_≡_, refl, sym, ap, ap₂, subst, _∙_, fun-ext}
+use Prim.Native.Nat.{ℕ, zero, suc, _≤_, _<_}
+use mathlib.Core.Path.{_≡_, refl, sym, ap, ap₂, subst, _∙_}
 use mathlib.Core.List.{List, [], _∷_, _++_, append-assoc, append-nil}
 use mathlib.Core.Logic.{_⊎_, inl, inr}
 use native.Mathlib.Omega.{arith}
@@ -10,20 +10,20 @@ use Rattle.std.specs.declared.option.Option.the-variants.{Some, None}
 use Rattle.fabric.specs.declared.parts.Flit.{Flit}
 use Rattle.fabric.specs.declared.parts.Port.{Port}
 use Rattle.fabric.specs.declared.parts.Slot.{Slot}
-use Rattle.fabric.specs.Layouts.{Exists, Missing, Lawful}
+use Rattle.fabric.specs.Layouts.{Missing, Lawful}
 use Rattle.fabric.specs.Verdicts.{Verdict, granting}
 use Rattle.fabric.specs.Verdicts.Verdict.{granted, refused}
 use Rattle.fabric.proofs.Following.{far-exists}
-use Rattle.switch.specs.Switches.{Handing, at, turned}
+use Rattle.switch.specs.Switches.{at, turned}
 use Rattle.line.specs.Queues.{Queue}
 use Rattle.bounds.specs.declared.settings.Settings.{Settings}
 use Rattle.network.specs.declared.event.Event.{Event}
 use Rattle.network.specs.Log.{Log}
 use Rattle.network.specs.Log.Happening.{offered, entered, off, collected}
 use Rattle.network.specs.Cycle.{Fabric, Places, State, golden-in, in-slot-order, wish-of, Remains, Lets-in, Filled, Work, Works, off-at, entered-at, news, Cycle, happened}
-use Rattle.network.specs.Runs.{Call, Outcome, ticket, offer-verdict, cycle-verdict, collection, collect-verdict, look-verdict, with-log, told, count-off, put-all, over, Serves, fresh, Leads}
+use Rattle.network.specs.Runs.{Call, Outcome, ticket, offer-verdict, cycle-verdict, collection, collect-verdict, with-log, told, count-off, put-all, over, Serves, Leads}
 use Rattle.network.specs.Runs.Call.{offer, cycle, collect, look}
-use Rattle.network.specs.Runs.Outcome.{offering, cycling, collecting, looking}
+use Rattle.network.specs.Runs.Outcome.{offering, cycling, collecting}
 use Rattle.network.specs.Runs.Serves.{offer-granted, offer-refused, cycle-granted, cycle-refused, collect-granted, collect-refused, looks}
 use Rattle.network.specs.Runs.Leads.{set-up, one-more}
 use Rattle.network.specs.Promises.{puts, story, Answered}

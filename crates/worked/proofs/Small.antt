@@ -19,7 +19,7 @@ use Rattle.network.specs.Runs.{Outcome, fresh}
 use Rattle.network.specs.Runs.Outcome.{looking}
 use Rattle.network.specs.Computed.{taken, left, entering, ready, handing, arriving, done, cycled, after}
 use Rattle.network.proofs.Solving.{cycle-one, clear-after, led, led-one, served-one}
-use Rattle.worked.specs.Example.{row, settings, first-offer, both-sent, both-met, whole, seven, nine, Example, Excluded}
+use Rattle.worked.specs.Example.{row, settings, first-offer, both-sent, whole, seven, nine, Example, Excluded}
 
 abbrev net : Fabric
 net = row chipper-turn
