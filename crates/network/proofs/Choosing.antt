@@ -5,7 +5,7 @@ use mathlib.Core.List.{List, [], _∷_}
 use mathlib.Core.Bool.{Bool, true, false, cond}
 use mathlib.Core.Logic.{_⊎_, inl, inr, ⊎-elim}
 use native.Mathlib.Omega.{arith}
-use Rattle.std.proofs.shelf.Tests.{cases-lt}
+use Rattle.std.proofs.shelf.Tests.{cases-lt, eq-eqb, ne-eqb}
 use Rattle.std.proofs.shelf.Ways.{tells}
 use Rattle.std.specs.declared.option.Option.{Option}
 use Rattle.std.specs.declared.option.Option.the-variants.{Some, None}
@@ -15,27 +15,9 @@ use Rattle.fabric.specs.declared.parts.Port.the-variants.{N, E, S, W}
 use Rattle.fabric.specs.Ports.{place-of}
 use Rattle.bounds.specs.declared.settings.Settings.{Settings}
 use Rattle.network.specs.Log.{packet, word, aim, sent, waiting}
-use Rattle.network.specs.Cycle.{Fabric, Places, State, Before, Takes, Changed, Remains, Next, First-empty, Lets-in, Filled}
-use Rattle.network.specs.Computed.{due, ahead, better, best, same-port, without, with-flit, or-else, if-empty, gap, next-of, placed}
-use Rattle.network.proofs.Places.{some-none, some-same, pair-some, same-port-itself, port-cases, due-from, due-here}
-
-pub place-same : (p q : Port) → place-of p ≡ place-of q → p ≡ q
-place-same N N e = refl
-place-same N E e = absurd (omega arith)
-place-same N S e = absurd (omega arith)
-place-same N W e = absurd (omega arith)
-place-same E N e = absurd (omega arith)
-place-same E E e = refl
-place-same E S e = absurd (omega arith)
-place-same E W e = absurd (omega arith)
-place-same S N e = absurd (omega arith)
-place-same S E e = absurd (omega arith)
-place-same S S e = refl
-place-same S W e = absurd (omega arith)
-place-same W N e = absurd (omega arith)
-place-same W E e = absurd (omega arith)
-place-same W S e = absurd (omega arith)
-place-same W W e = refl
+use Rattle.network.specs.Cycle.{Fabric, Places, State, golden-in, in-slot-order, wish-of, Before, Takes, Changed, Remains, Next, First-empty, Lets-in, Filled, Work, Works}
+use Rattle.network.specs.Computed.{due, ahead, better, best, same-port, without, with-flit, or-else, if-empty, gap, next-of, placed, taken, left, entering, ready, handing}
+use Rattle.network.proofs.Places.{some-none, some-same, pair-some, place-same, port-cases}
 
 place-small : (p : Port) → place-of p < 4
 place-small N = omega arith
@@ -46,6 +28,13 @@ place-small W = omega arith
 -- an earlier side, or this one
 earlier : (p q : Port) → place-of q < place-of p + 1 → (place-of q < place-of p) ⊎ (q ≡ p)
 earlier p q h = ⊎-elim inl (λ k. inr (place-same q p (omega arith))) (cases-lt (place-of q) (place-of p))
+
+due-from : (n : ℕ) (o : Option Flit) (f : Flit) → due n o ≡ Some f → (o ≡ Some f) × (f .destination ≡ n)
+due-from n None f e = some-none None f refl e
+due-from n (Some g) f e = grind (arith, tells)
+
+due-here : (n : ℕ) (o : Option Flit) (f : Flit) → o ≡ Some f → f .destination ≡ n → due n o ≡ Some f
+due-here n o f e d = grind (arith, tells)
 
 -- what the test of two flits says
 ahead-yes : (g : ℕ) (f h : Flit) → ahead g f h ≡ true → (f .ticket ≡ g) × (h .ticket ≡ g → f .number < h .number)
@@ -131,21 +120,16 @@ module _ (g n : ℕ) (slots : Places) where
       pair-some a (b .0) (b .1) e d
 
 module _ (p : Port) (o : Option Flit) (here : Places) where
-  pub changed-here : Changed p o here (λ q. cond (same-port p q) o (here q))
-  changed-here = record { there = rw (same-port-itself p) refl; others = λ q h. go q h (port-cases p q) }
-    where
-      go : (q : Port) → (q ≡ p → ⊥) → (p ≡ q) ⊎ (same-port p q ≡ false) → cond (same-port p q) o (here q) ≡ here q
-      go q h (inl e) = absurd (h (sym e))
-      go q h (inr e) = rw e refl
+  changed-here : Changed p o here (λ q. cond (same-port p q) o (here q))
+  changed-here = record {
+    there = rw (eq-eqb (place-of p) (place-of p) refl) refl;
+    others = λ q h. rw (ne-eqb (place-of p) (place-of q) (λ e. h (place-same q p (sym e)))) refl;
+  }
 
-  pub changed-one : (a b : Places) → Changed p o here a → Changed p o here b → a ≡ b
-  changed-one a b u v = fun-ext (λ q. go q (port-cases p q))
-    where
-      go : (q : Port) → (p ≡ q) ⊎ (same-port p q ≡ false) → a q ≡ b q
-      go q (inl e) = subst (λ (x : Port). a x ≡ b x) e (u .there ∙ sym (v .there))
-      go q (inr e) =
-          let apart : q ≡ p → ⊥ = λ k. let z : _≡_ {A = Bool} true false = sym (same-port-itself p) ∙ (subst (λ (x : Port). same-port p x ≡ false) k e) in let z : _≡_ {A = ℕ} 0 1 = cc in omega arith in
-          u .others q apart ∙ sym (v .others q apart)
+  changed-one : (a b : Places) → Changed p o here a → Changed p o here b → a ≡ b
+  changed-one a b u v = fun-ext (λ q. ⊎-elim
+      (λ e. subst (λ (x : Port). a x ≡ b x) (sym e) (u .there ∙ sym (v .there)))
+      (λ h. u .others q h ∙ sym (v .others q h)) (port-cases q p))
 
 pub remains-without : (b : Option (Port × Flit)) (here : Places) → Remains b here (without b here)
 remains-without None here = λ p. refl
@@ -239,3 +223,45 @@ module _ (F : Fabric) (P : Settings) (s : State) (n : ℕ) (here : Places) where
   lets-one None (Some b) u v = absurd (not-none b u v)
   lets-one (Some a) None u v = absurd (not-none a v u)
   lets-one (Some a) (Some b) u v = pair-some a (b .0) (b .1) (first-one (a .0) (b .0) (u .0) (v .0)) (next-one (a .1) (b .1) (u .1) (v .1))
+
+module _ (F : Fabric) (P : Settings) (s : State) where
+  abbrev pub computed : ℕ → Work
+  computed n = record { takes = taken F P s n; remaining = left F P s n; lets-in = entering F P s n; ready = ready F P s n; handing = handing F P s n }
+
+  -- what a node computes is its work, and it has no other
+  pub work-is : (n : ℕ) → Works F P s n (computed n)
+  unfolding taken left entering ready handing
+  work-is n = record {
+    taking-off = takes-best (golden-in F P (s .cycles)) n (s .slot n);
+    remaining = remains-without (taken F P s n) (s .slot n);
+    entering = lets-first F P s n (left F P s n);
+    filled = filled-with (entering F P s n) (left F P s n);
+    places = refl;
+    wishes = refl;
+    golden = refl;
+    drawing = refl;
+  }
+
+  pub work-one : (n : ℕ) (w : Work) → Works F P s n w → w ≡ computed n
+  work-one n w k =
+      let c : Works F P s n (computed n) = work-is n in
+      let a : w .takes ≡ taken F P s n = takes-one (golden-in F P (s .cycles)) n (s .slot n) (w .takes) (taken F P s n) (k .taking-off) (c .taking-off) in
+      let b : w .remaining ≡ left F P s n =
+      remains-one (taken F P s n) (s .slot n) (w .remaining) (left F P s n)
+      (subst (λ (o : Option (Port × Flit)). Remains o (s .slot n) (w .remaining)) a (k .remaining)) (c .remaining) in
+      let d : w .lets-in ≡ entering F P s n =
+      lets-one F P s n (left F P s n) (w .lets-in) (entering F P s n)
+      (subst (λ (x : Places). Lets-in P s n x (w .lets-in)) b (k .entering)) (c .entering) in
+      let filled : Filled (entering F P s n) (left F P s n) (w .ready) = subst (λ (o : Option (Port × Flit)). Filled o (left F P s n) (w .ready)) d (subst (λ (x : Places). Filled (w .lets-in) x (w .ready)) b (k .filled)) in
+      let e : w .ready ≡ ready F P s n = filled-one (entering F P s n) (left F P s n) (w .ready) (ready F P s n) filled (c .filled) in
+      let p = k .places ∙ (ap (λ (x : Places). in-slot-order x) e ∙ sym (c .places)) in
+      let q = k .wishes ∙ (ap (λ (x : Places). in-slot-order (λ p. wish-of F n (x p))) e ∙ sym (c .wishes)) in
+      let g = k .golden ∙ sym (c .golden) in
+      let r = k .drawing ∙ sym (c .drawing) in
+      λ i. record {
+        takes = a i;
+        remaining = b i;
+        lets-in = d i;
+        ready = e i;
+        handing = record { places = p i; wishes = q i; golden = g i; draws = r i };
+      }

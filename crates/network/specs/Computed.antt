@@ -1,13 +1,14 @@
 -- What one cycle, a call and a run come to, computed: the one solution of the relations in Cycle and Runs.
 use Prim.Native.Nat.{ℕ, _+_}
 use mathlib.Core.List.{List, [], _∷_, _++_}
-use mathlib.Core.Bool.{Bool, true, false, cond, _&&_, _||_, not}
+use mathlib.Core.Bool.{Bool, cond, _&&_, _||_, not}
 use lib.Dec.{eqb, ltb}
 use Rattle.std.specs.declared.option.Option.{Option}
 use Rattle.std.specs.declared.option.Option.the-variants.{Some, None}
 use Rattle.fabric.specs.declared.parts.Flit.{Flit}
 use Rattle.fabric.specs.declared.parts.Port.{Port}
 use Rattle.fabric.specs.declared.parts.Port.the-variants.{N, E, S, W}
+use Rattle.fabric.specs.Ports.{place-of}
 use Rattle.fabric.specs.Verdicts.{Verdict, granting}
 use Rattle.fabric.specs.Verdicts.Verdict.{granted, refused}
 use Rattle.switch.specs.Switches.{Handing, at, turned}
@@ -39,22 +40,7 @@ abbrev pub best : ℕ → Places → Option (Port × Flit)
 best g here = better g (better g (better g (better g None N (here N)) E (here E)) S (here S)) W (here W)
 
 abbrev pub same-port : Port → Port → Bool
-same-port N N = true
-same-port N E = false
-same-port N S = false
-same-port N W = false
-same-port E N = false
-same-port E E = true
-same-port E S = false
-same-port E W = false
-same-port S N = false
-same-port S E = false
-same-port S S = true
-same-port S W = false
-same-port W N = false
-same-port W E = false
-same-port W S = false
-same-port W W = true
+same-port p q = eqb (place-of p) (place-of q)
 
 -- four places with one of them emptied, or filled
 abbrev pub without : Option (Port × Flit) → Places → Places
