@@ -226,42 +226,42 @@ module _ (F : Fabric) (P : Settings) (s : State) (n : ℕ) (here : Places) where
 
 module _ (F : Fabric) (P : Settings) (s : State) where
   abbrev pub computed : ℕ → Work
-  computed n = record { takes = taken F P s n; remaining = left F P s n; lets-in = entering F P s n; ready = ready F P s n; handing = handing F P s n }
+  computed n = record { off = taken F P s n; left = left F P s n; entry = entering F P s n; ready = ready F P s n; handing = handing F P s n }
 
   -- what a node computes is its work, and it has no other
   pub work-is : (n : ℕ) → Works F P s n (computed n)
   unfolding taken left entering ready handing
   work-is n = record {
-    taking-off = takes-best (golden-in F P (s .cycles)) n (s .slot n);
-    remaining = remains-without (taken F P s n) (s .slot n);
-    entering = lets-first F P s n (left F P s n);
-    filled = filled-with (entering F P s n) (left F P s n);
+    takes-off = takes-best (golden-in F P (s .cycles)) n (s .slot n);
+    remains = remains-without (taken F P s n) (s .slot n);
+    lets-in = lets-first F P s n (left F P s n);
+    fills = filled-with (entering F P s n) (left F P s n);
     places = refl;
     wishes = refl;
     golden = refl;
-    drawing = refl;
+    draws = refl;
   }
 
   pub work-one : (n : ℕ) (w : Work) → Works F P s n w → w ≡ computed n
   work-one n w k =
       let c : Works F P s n (computed n) = work-is n in
-      let a : w .takes ≡ taken F P s n = takes-one (golden-in F P (s .cycles)) n (s .slot n) (w .takes) (taken F P s n) (k .taking-off) (c .taking-off) in
-      let b : w .remaining ≡ left F P s n =
-      remains-one (taken F P s n) (s .slot n) (w .remaining) (left F P s n)
-      (subst (λ (o : Option (Port × Flit)). Remains o (s .slot n) (w .remaining)) a (k .remaining)) (c .remaining) in
-      let d : w .lets-in ≡ entering F P s n =
-      lets-one F P s n (left F P s n) (w .lets-in) (entering F P s n)
-      (subst (λ (x : Places). Lets-in P s n x (w .lets-in)) b (k .entering)) (c .entering) in
-      let filled : Filled (entering F P s n) (left F P s n) (w .ready) = subst (λ (o : Option (Port × Flit)). Filled o (left F P s n) (w .ready)) d (subst (λ (x : Places). Filled (w .lets-in) x (w .ready)) b (k .filled)) in
-      let e : w .ready ≡ ready F P s n = filled-one (entering F P s n) (left F P s n) (w .ready) (ready F P s n) filled (c .filled) in
+      let a : w .off ≡ taken F P s n = takes-one (golden-in F P (s .cycles)) n (s .slot n) (w .off) (taken F P s n) (k .takes-off) (c .takes-off) in
+      let b : w .left ≡ left F P s n =
+      remains-one (taken F P s n) (s .slot n) (w .left) (left F P s n)
+      (subst (λ (o : Option (Port × Flit)). Remains o (s .slot n) (w .left)) a (k .remains)) (c .remains) in
+      let d : w .entry ≡ entering F P s n =
+      lets-one F P s n (left F P s n) (w .entry) (entering F P s n)
+      (subst (λ (x : Places). Lets-in P s n x (w .entry)) b (k .lets-in)) (c .lets-in) in
+      let filled : Filled (entering F P s n) (left F P s n) (w .ready) = subst (λ (o : Option (Port × Flit)). Filled o (left F P s n) (w .ready)) d (subst (λ (x : Places). Filled (w .entry) x (w .ready)) b (k .fills)) in
+      let e : w .ready ≡ ready F P s n = filled-one (entering F P s n) (left F P s n) (w .ready) (ready F P s n) filled (c .fills) in
       let p = k .places ∙ (ap (λ (x : Places). in-slot-order x) e ∙ sym (c .places)) in
       let q = k .wishes ∙ (ap (λ (x : Places). in-slot-order (λ p. wish-of F n (x p))) e ∙ sym (c .wishes)) in
       let g = k .golden ∙ sym (c .golden) in
-      let r = k .drawing ∙ sym (c .drawing) in
+      let r = k .draws ∙ sym (c .draws) in
       λ i. record {
-        takes = a i;
-        remaining = b i;
-        lets-in = d i;
+        off = a i;
+        left = b i;
+        entry = d i;
         ready = e i;
         handing = record { places = p i; wishes = q i; golden = g i; draws = r i };
       }

@@ -34,13 +34,13 @@ at-turned t xs W = refl
 
 module _ (F : Fabric) (P : Settings) (s : State) where
   taken-law : (n : ℕ) (p : Port) (f : Flit) → taken F P s n ≡ Some (p, f) → Takes (golden-in F P (s .cycles)) n (s .slot n) (Some (p, f))
-  taken-law n p f e = subst (Takes (golden-in F P (s .cycles)) n (s .slot n)) e (work-is F P s n .taking-off)
+  taken-law n p f e = subst (Takes (golden-in F P (s .cycles)) n (s .slot n)) e (work-is F P s n .takes-off)
 
   pub taken-here : (n : ℕ) (p : Port) (f : Flit) → taken F P s n ≡ Some (p, f) → Destined n (s .slot n) p f
   taken-here n p f e = taken-law n p f e .0
 
   pub slot-split : (n : ℕ) (p : Port) (f : Flit) → s .slot n p ≡ Some f → (taken F P s n ≡ Some (p, f)) ⊎ (left F P s n p ≡ Some f)
-  slot-split n p f e = go (taken F P s n) refl (work-is F P s n .remaining)
+  slot-split n p f e = go (taken F P s n) refl (work-is F P s n .remains)
     where
       go : (o : Option (Port × Flit)) → taken F P s n ≡ o → Remains o (s .slot n) (left F P s n) → (taken F P s n ≡ Some (p, f)) ⊎ (left F P s n p ≡ Some f)
       go None t k = inr (k p ∙ e)
@@ -52,7 +52,7 @@ module _ (F : Fabric) (P : Settings) (s : State) where
           (λ h. inr (k .others p h ∙ e)) (port-cases p (b .0))
 
   pub left-slot : (n : ℕ) (p : Port) (f : Flit) → left F P s n p ≡ Some f → s .slot n p ≡ Some f
-  left-slot n p f e = go (taken F P s n) (work-is F P s n .remaining)
+  left-slot n p f e = go (taken F P s n) (work-is F P s n .remains)
     where
       go : (o : Option (Port × Flit)) → Remains o (s .slot n) (left F P s n) → s .slot n p ≡ Some f
       go None k = sym (k p) ∙ e
@@ -62,15 +62,15 @@ module _ (F : Fabric) (P : Settings) (s : State) where
 
   pub left-gone : (n : ℕ) (p : Port) (f g : Flit) → taken F P s n ≡ Some (p, g) → left F P s n p ≡ Some f → ⊥
   left-gone n p f g e u =
-      let k : Remains (Some (p, g)) (s .slot n) (left F P s n) = subst (λ (o : Option (Port × Flit)). Remains o (s .slot n) (left F P s n)) e (work-is F P s n .remaining) in
+      let k : Remains (Some (p, g)) (s .slot n) (left F P s n) = subst (λ (o : Option (Port × Flit)). Remains o (s .slot n) (left F P s n)) e (work-is F P s n .remains) in
       some-none (left F P s n p) f (k .there) u
 
   -- the flit that enters is the next one of the first packet that waits, and its place was empty
   pub enters : (n : ℕ) (p : Port) (f : Flit) → entering F P s n ≡ Some (p, f) → Lets-in P s n (left F P s n) (Some (p, f))
-  enters n p f e = subst (Lets-in P s n (left F P s n)) e (work-is F P s n .entering)
+  enters n p f e = subst (Lets-in P s n (left F P s n)) e (work-is F P s n .lets-in)
 
   pub ready-split : (n : ℕ) (p : Port) (f : Flit) → ready F P s n p ≡ Some f → (entering F P s n ≡ Some (p, f)) ⊎ (left F P s n p ≡ Some f)
-  ready-split n p f e = go (entering F P s n) refl (work-is F P s n .filled)
+  ready-split n p f e = go (entering F P s n) refl (work-is F P s n .fills)
     where
       go : (o : Option (Port × Flit)) → entering F P s n ≡ o → Filled o (left F P s n) (ready F P s n) → (entering F P s n ≡ Some (p, f)) ⊎ (left F P s n p ≡ Some f)
       go None t k = inr (sym (k p) ∙ e)
@@ -82,7 +82,7 @@ module _ (F : Fabric) (P : Settings) (s : State) where
           (λ h. inr (sym (k .others p h) ∙ e)) (port-cases p (b .0))
 
   pub left-ready : (n : ℕ) (p : Port) (f : Flit) → left F P s n p ≡ Some f → ready F P s n p ≡ Some f
-  left-ready n p f e = go (entering F P s n) refl (work-is F P s n .filled)
+  left-ready n p f e = go (entering F P s n) refl (work-is F P s n .fills)
     where
       go : (o : Option (Port × Flit)) → entering F P s n ≡ o → Filled o (left F P s n) (ready F P s n) → ready F P s n p ≡ Some f
       go None t k = k p ∙ e
@@ -92,7 +92,7 @@ module _ (F : Fabric) (P : Settings) (s : State) where
 
   pub entering-ready : (n : ℕ) (p : Port) (f : Flit) → entering F P s n ≡ Some (p, f) → ready F P s n p ≡ Some f
   entering-ready n p f e =
-      let k : Filled (Some (p, f)) (left F P s n) (ready F P s n) = subst (λ (o : Option (Port × Flit)). Filled o (left F P s n) (ready F P s n)) e (work-is F P s n .filled) in
+      let k : Filled (Some (p, f)) (left F P s n) (ready F P s n) = subst (λ (o : Option (Port × Flit)). Filled o (left F P s n) (ready F P s n)) e (work-is F P s n .fills) in
       k .there
 
   pub at-places : (n : ℕ) (p : Port) → at (handing F P s n .places) p ≡ ready F P s n p
@@ -157,7 +157,7 @@ module _ (F : Fabric) (P : Settings) (s : State) where
       ((q : Port) (h : Flit) → s .slot n q ≡ Some h → h .destination ≡ n → h .ticket ≡ golden-in F P (s .cycles) → h .number < f .number → ⊥) →
       ((q : Port) (h : Flit) → s .slot n q ≡ Some h → h .ticket ≡ f .ticket → h .number ≡ f .number → q ≡ p) →
       taken F P s n ≡ Some (p, f)
-  taken-lowest n p f e d t lowest apart = go (taken F P s n) refl (work-is F P s n .taking-off)
+  taken-lowest n p f e d t lowest apart = go (taken F P s n) refl (work-is F P s n .takes-off)
     where
       go : (o : Option (Port × Flit)) → taken F P s n ≡ o → Takes (golden-in F P (s .cycles)) n (s .slot n) o → taken F P s n ≡ Some (p, f)
       go None u k = absurd (k p f (e, d))

@@ -51,8 +51,8 @@ few-told : (c : ℕ) (work : ℕ → Work) (n : ℕ) → length (told (news c wo
 few-told c work zero = omega arith
 few-told c work (suc n) =
     let a = few-told c work n in
-    let b = off-told c n (work n .takes) (news c work n) in
-    let d = entered-told n (work n .lets-in) (off-at c n (work n .takes) ++ news c work n) in
+    let b = off-told c n (work n .off) (news c work n) in
+    let d = entered-told n (work n .entry) (off-at c n (work n .off) ++ news c work n) in
     omega arith
 
 module _ (F : Fabric) (P : Settings) where

@@ -38,7 +38,7 @@ module _ (F : Fabric) (P : Settings) where
     unfolding done
     news-done work zero h = refl
     news-done work (suc m) h =
-        ap₂ (λ (w : Work) (l : Log). entered-at m (w .lets-in) ++ (off-at (s .cycles) m (w .takes) ++ l)) (h m (omega arith)) (news-done work m (λ n k. h n (omega arith)))
+        ap₂ (λ (w : Work) (l : Log). entered-at m (w .entry) ++ (off-at (s .cycles) m (w .off) ++ l)) (h m (omega arith)) (news-done work m (λ n k. h n (omega arith)))
 
     -- no flit is at a node that is missing
     abbrev Clear : Type 0

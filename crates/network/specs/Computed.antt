@@ -15,7 +15,7 @@ use Rattle.switch.specs.Switches.{Handing, at, turned}
 use Rattle.bounds.specs.declared.settings.Settings.{Settings}
 use Rattle.network.specs.Log.{Log, packet, word, aim, sent, waiting}
 use Rattle.network.specs.Log.Happening.{offered, collected}
-use Rattle.network.specs.Cycle.{Fabric, Places, State, golden-in, in-slot-order, wish-of, draws, off-at, entered-at}
+use Rattle.network.specs.Cycle.{Fabric, Places, State, golden-in, in-slot-order, wish-of, draws-at, off-at, entered-at}
 use Rattle.network.specs.Runs.{Call, Outcome, ticket, offer-verdict, cycle-verdict, collection, collect-verdict, look-verdict, with-log, told, count-off, put-all, over, fresh}
 use Rattle.network.specs.Runs.Call.{offer, cycle, collect, look}
 use Rattle.network.specs.Runs.Outcome.{offering, cycling, collecting, looking}
@@ -98,7 +98,7 @@ module _ (F : Fabric) (P : Settings) (s : State) where
         places = in-slot-order (ready n);
         wishes = in-slot-order (λ p. wish-of F n (ready n p));
         golden = golden-in F P (s .cycles);
-        draws = draws F P s n;
+        draws = draws-at F P s n;
       }
 
   -- what leaves the place at its far end
