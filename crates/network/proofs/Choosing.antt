@@ -147,58 +147,34 @@ pub filled-one : (b : Option (Port × Flit)) (here x y : Places) → Filled b he
 filled-one None here x y u v = fun-ext (λ p. u p ∙ sym (v p))
 filled-one (Some b) here x y u v = changed-one (b .0) (Some (b .1)) here x y u v
 
--- the first empty place, if there is one
-abbrev Gap : Places → Option Port → Type 0
-Gap here None = (p : Port) → here p ≡ None → ⊥
-Gap here (Some p) = First-empty here p
+module _ (here : Places) where
+  -- the first empty of the first k places
+  abbrev Gap : ℕ → Option Port → Type 0
+  Gap k None = (q : Port) → place-of q < k → here q ≡ None → ⊥
+  Gap k (Some p) = First-empty here p
 
-gap-law : (here : Places) → Gap here (gap here)
-gap-law here = go (here N) (here E) (here S) (here W) refl refl refl refl
-  where
-    full : (p : Port) (f : Flit) → here p ≡ Some f → here p ≡ None → ⊥
-    full p f u v = some-none (here p) f v u
+  gap-step : (p : Port) (acc : Option Port) → Gap (place-of p) acc → (o : Option Flit) → here p ≡ o → Gap (place-of p + 1) (or-else acc (if-empty o p))
+  gap-step p (Some q) u o e = u
+  gap-step p None u None e = record { empty = e; first = λ q h. ⊎-elim (λ k. absurd (u q k h)) (λ k. k) (cases-lt (place-of q) (place-of p)) }
+  gap-step p None u (Some f) e = λ q k h.
+      ⊎-elim (λ z. u q z h) (λ z. some-none (here q) f h (subst (λ (x : Port). here x ≡ Some f) (sym z) e)) (earlier p q k)
 
-    go : (a b c d : Option Flit) → here N ≡ a → here E ≡ b → here S ≡ c → here W ≡ d →
-        Gap here (or-else (if-empty a N) (or-else (if-empty b E) (or-else (if-empty c S) (if-empty d W))))
-    go None b c d p q r t = record { empty = p; first = λ x e. omega arith }
-    go (Some f) None c d p q r t = record { empty = q; first = late }
-      where
-        late : (x : Port) → here x ≡ None → 1 ≤ place-of x
-        late N e = absurd (full N f p e)
-        late E e = omega arith
-        late S e = omega arith
-        late W e = omega arith
-    go (Some f) (Some g) None d p q r t = record { empty = r; first = late }
-      where
-        late : (x : Port) → here x ≡ None → 2 ≤ place-of x
-        late N e = absurd (full N f p e)
-        late E e = absurd (full E g q e)
-        late S e = omega arith
-        late W e = omega arith
-    go (Some f) (Some g) (Some h) None p q r t = record { empty = t; first = late }
-      where
-        late : (x : Port) → here x ≡ None → 3 ≤ place-of x
-        late N e = absurd (full N f p e)
-        late E e = absurd (full E g q e)
-        late S e = absurd (full S h r e)
-        late W e = omega arith
-    go (Some f) (Some g) (Some h) (Some i) p q r t = none
-      where
-        none : (x : Port) → here x ≡ None → ⊥
-        none N e = full N f p e
-        none E e = full E g q e
-        none S e = full S h r e
-        none W e = full W i t e
+  gap-of-all : Gap 4 (gap here)
+  gap-of-all =
+      gap-step W (or-else (or-else (if-empty (here N) N) (if-empty (here E) E)) (if-empty (here S) S))
+      (gap-step S (or-else (if-empty (here N) N) (if-empty (here E) E))
+      (gap-step E (if-empty (here N) N)
+      (gap-step N None (λ q k. absurd (omega arith)) (here N) refl) (here E) refl) (here S) refl) (here W) refl
 
 module _ (F : Fabric) (P : Settings) (s : State) (n : ℕ) (here : Places) where
-  lets-gap : (o : Option Port) → Gap here o → (ts : List ℕ) → waiting (P .tickets) n (s .log) ≡ ts → Lets-in P s n here (placed F P s o (next-of F P s ts))
+  lets-gap : (o : Option Port) → Gap here 4 o → (ts : List ℕ) → waiting (P .tickets) n (s .log) ≡ ts → Lets-in P s n here (placed F P s o (next-of F P s ts))
   lets-gap None e [] w = inl w
-  lets-gap None e (t ∷ ts) w = inr e
+  lets-gap None e (t ∷ ts) w = inr (λ p. e p (place-small p))
   lets-gap (Some p) e [] w = inl w
   lets-gap (Some p) e (t ∷ ts) w = (e, record { others = ts; ticket = w; number = refl; destination = refl; its-word = refl; now = refl })
 
   pub lets-first : Lets-in P s n here (placed F P s (gap here) (next-of F P s (waiting (P .tickets) n (s .log))))
-  lets-first = lets-gap (gap here) (gap-law here) (waiting (P .tickets) n (s .log)) refl
+  lets-first = lets-gap (gap here) (gap-of-all here) (waiting (P .tickets) n (s .log)) refl
 
   next-one : (f h : Flit) → Next P s n f → Next P s n h → f ≡ h
   next-one f h u v =

@@ -78,49 +78,54 @@ module _ (F : Fabric) (P : Settings) where
 
   -- a call has one outcome and leads to one state
   module _ (law : Lawful (F .plan)) (s : State) (clear : Clear s) where
-    pub served : (k : Call) → Serves F P s k (outcome F P s k) (next F P s k)
+    abbrev did : Log
+    did = done F P s (F .plan .nodes)
+
+    abbrev offer-leads : ℕ → ℕ → ℕ → List ℕ → Verdict (Unit {0}) → State
+    offer-leads n o d ws v = decided v (with-log F P s (offered (ticket F P n o) (record { destination = d; words = ws }))) s
+
+    abbrev cycle-answers : Queue Event → Verdict (Unit {0}) → Outcome
+    cycle-answers q v = cycling (granting (λ _. count-off did) v) (decided v (put-all q (told did)) q)
+
+    abbrev cycle-leads : Verdict (Unit {0}) → State
+    cycle-leads v = decided v (cycled F P s) s
+
+    abbrev collect-answers : ℕ → ℕ → List ℕ → Verdict ℕ → Outcome
+    collect-answers n o memory v = collecting v (decided v (over (collection F P s (ticket F P n o)) memory) memory)
+
+    abbrev collect-leads : ℕ → ℕ → ℕ → Verdict ℕ → State
+    collect-leads r n o v = decided v (with-log F P s (collected (ticket F P n o) r (collection F P s (ticket F P n o)))) s
+
+    served : (k : Call) → Serves F P s k (outcome F P s k) (next F P s k)
     served (offer n o d ws) = go (offer-verdict F P s n o d ws) refl
       where
-        go : (v : Verdict (Unit {0})) → offer-verdict F P s n o d ws ≡ v → Serves F P s (offer n o d ws) (offering v) (decided v (with-log F P s (offered (ticket F P n o) (record { destination = d; words = ws }))) s)
+        go : (v : Verdict (Unit {0})) → offer-verdict F P s n o d ws ≡ v → Serves F P s (offer n o d ws) (offering v) (offer-leads n o d ws v)
         go (granted tt) e = offer-granted e
         go (refused k vs) e = offer-refused e
     served (cycle q) = go (cycle-verdict F P s q) refl
       where
-        go : (v : Verdict (Unit {0})) → cycle-verdict F P s q ≡ v →
-            Serves F P s (cycle q) (cycling (granting (λ _. count-off (done F P s (F .plan .nodes))) v) (decided v (put-all q (told (done F P s (F .plan .nodes)))) q)) (decided v (cycled F P s) s)
+        go : (v : Verdict (Unit {0})) → cycle-verdict F P s q ≡ v → Serves F P s (cycle q) (cycle-answers q v) (cycle-leads v)
         go (granted tt) e =
             subst (λ (l : Log). Serves F P s (cycle q) (cycling (granted (count-off l)) (put-all q (told l))) (cycled F P s))
             (happened-is s law clear (cycled F P s) (cycle-is s law clear)) (cycle-granted e (cycle-is s law clear))
         go (refused k vs) e = cycle-refused e
     served (collect r n o memory) = go (collect-verdict F P s r n o memory) refl
       where
-        go : (v : Verdict ℕ) → collect-verdict F P s r n o memory ≡ v →
-            Serves F P s (collect r n o memory) (collecting v (decided v (over (collection F P s (ticket F P n o)) memory) memory)) (decided v (with-log F P s (collected (ticket F P n o) r (collection F P s (ticket F P n o)))) s)
+        go : (v : Verdict ℕ) → collect-verdict F P s r n o memory ≡ v → Serves F P s (collect r n o memory) (collect-answers n o memory v) (collect-leads r n o v)
         go (granted k) e = collect-granted e
         go (refused k vs) e = collect-refused e
     served (look n p) = looks
 
-    abbrev answers : Queue Event → Verdict (Unit {0}) → Outcome
-    answers q v = cycling (granting (λ _. count-off (done F P s (F .plan .nodes))) v) (decided v (put-all q (told (done F P s (F .plan .nodes)))) q)
-
-    abbrev brings : ℕ → ℕ → List ℕ → Verdict ℕ → Outcome
-    brings n o memory v = collecting v (decided v (over (collection F P s (ticket F P n o)) memory) memory)
-
-    abbrev leaves : ℕ → ℕ → ℕ → Verdict ℕ → State
-    leaves r n o v = decided v (with-log F P s (collected (ticket F P n o) r (collection F P s (ticket F P n o)))) s
-
     pub served-one : {k : Call} {o : Outcome} {r : State} → Serves F P s k o r → (o ≡ outcome F P s k) × (r ≡ next F P s k)
-    served-one (offer-granted {n} {o} {d} {ws} e) =
-        (ap offering (sym e), ap (λ (v : Verdict (Unit {0})). decided v (with-log F P s (offered (ticket F P n o) (record { destination = d; words = ws }))) s) (sym e))
-    served-one (offer-refused {n} {o} {d} {k} {ws} {vs} e) =
-        (ap offering (sym e), ap (λ (v : Verdict (Unit {0})). decided v (with-log F P s (offered (ticket F P n o) (record { destination = d; words = ws }))) s) (sym e))
+    served-one (offer-granted {n} {o} {d} {ws} e) = (ap offering (sym e), ap (offer-leads n o d ws) (sym e))
+    served-one (offer-refused {n} {o} {d} {k} {ws} {vs} e) = (ap offering (sym e), ap (offer-leads n o d ws) (sym e))
     served-one (cycle-granted {q} {r} e c) = (
-      ap (λ (l : Log). cycling (granted (count-off l)) (put-all q (told l))) (happened-is s law clear r c) ∙ ap (answers q) (sym e),
-      cycle-one s law clear r c ∙ ap (λ (v : Verdict (Unit {0})). decided v (cycled F P s) s) (sym e),
+      ap (λ (l : Log). cycling (granted (count-off l)) (put-all q (told l))) (happened-is s law clear r c) ∙ ap (cycle-answers q) (sym e),
+      cycle-one s law clear r c ∙ ap cycle-leads (sym e),
     )
-    served-one (cycle-refused {q} {k} {vs} e) = (ap (answers q) (sym e), ap (λ (v : Verdict (Unit {0})). decided v (cycled F P s) s) (sym e))
-    served-one (collect-granted {r} {n} {o} {k} {memory} e) = (ap (brings n o memory) (sym e), ap (leaves r n o) (sym e))
-    served-one (collect-refused {r} {n} {o} {k} {memory} {vs} e) = (ap (brings n o memory) (sym e), ap (leaves r n o) (sym e))
+    served-one (cycle-refused {q} {k} {vs} e) = (ap (cycle-answers q) (sym e), ap cycle-leads (sym e))
+    served-one (collect-granted {r} {n} {o} {k} {memory} e) = (ap (collect-answers n o memory) (sym e), ap (collect-leads r n o) (sym e))
+    served-one (collect-refused {r} {n} {o} {k} {memory} {vs} e) = (ap (collect-answers n o memory) (sym e), ap (collect-leads r n o) (sym e))
     served-one looks = (refl, refl)
 
     pub answered : (k : Call) → Answered F P s k

@@ -61,7 +61,7 @@ if-empty None p = Some p
 if-empty (Some f) p = None
 
 abbrev pub gap : Places → Option Port
-gap here = or-else (if-empty (here N) N) (or-else (if-empty (here E) E) (or-else (if-empty (here S) S) (if-empty (here W) W)))
+gap here = or-else (or-else (or-else (if-empty (here N) N) (if-empty (here E) E)) (if-empty (here S) S)) (if-empty (here W) W)
 
 module _ (F : Fabric) (P : Settings) (s : State) where
   unfoldable pub taken : ℕ → Option (Port × Flit)
