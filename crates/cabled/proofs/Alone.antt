@@ -11,8 +11,8 @@ use Rattle.std.proofs.shelf.Tests.{ltb-true, and-parts, cond-both}
 use Rattle.std.specs.Options.{valueOr}
 use Rattle.std.specs.declared.option.Option.the-variants.{None}
 use Rattle.fabric.specs.declared.parts.Port.{Port}
+use Rattle.fabric.specs.Layouts.{both}
 use Rattle.fabric.specs.declared.parts.Slot.{Slot}
-use Rattle.fabric.specs.Meshes.{both}
 use Rattle.cabled.specs.Cables.{Walk, Means, lone}
 use Rattle.cabled.specs.Cables.Walk.{stay}
 use Rattle.cabled.specs.Tables.{index, far-at, distance-at, wish-at, cabled-plan}

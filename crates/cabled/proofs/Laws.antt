@@ -13,8 +13,7 @@ use Rattle.std.specs.declared.option.Option.the-variants.{Some, None}
 use Rattle.fabric.specs.declared.parts.Port.{Port}
 use Rattle.fabric.specs.declared.parts.Port.the-variants.{N, E, S, W}
 use Rattle.fabric.specs.declared.parts.Slot.{Slot}
-use Rattle.fabric.specs.Layouts.{Plan, Lawful, Leads}
-use Rattle.fabric.specs.Meshes.{both}
+use Rattle.fabric.specs.Layouts.{Plan, Lawful, Leads, both}
 use Rattle.cabled.specs.Cables.{rank, Wished}
 use Rattle.cabled.specs.Tables.{far-at, distance-at, leads, first, wish-at, cabled-plan, Paired, Within, Nearing}
 

@@ -12,8 +12,7 @@ use Rattle.fabric.specs.declared.parts.Cable.{Cable}
 use Rattle.fabric.specs.declared.parts.Port.{Port}
 use Rattle.fabric.specs.declared.parts.Port.the-variants.{N, E, S, W}
 use Rattle.fabric.specs.declared.parts.Slot.{Slot}
-use Rattle.fabric.specs.Layouts.{Plan}
-use Rattle.fabric.specs.Meshes.{both}
+use Rattle.fabric.specs.Layouts.{Plan, both}
 use Rattle.fabric.specs.Ports.{place-of}
 use Rattle.cabled.specs.Cables.{All-good, Joined}
 

@@ -13,17 +13,22 @@ use Rattle.fabric.specs.declared.parts.Flit.{Flit}
 use Rattle.fabric.specs.Layouts.{Plan}
 use Rattle.fabric.specs.Meshes.{mesh-plan}
 use Rattle.fabric.specs.Verdicts.{Verdict}
-use Rattle.fabric.specs.Verdicts.Verdict.{refused}
+use Rattle.fabric.specs.Verdicts.Verdict.{granted, refused}
 use Rattle.cabled.specs.Cables.{Cabling}
 use Rattle.switch.specs.Switches.{Handing, handed}
 use Rattle.switch.specs.Chippers.{chipper-turn}
 use Rattle.switch.specs.Blesses.{bless-turn}
+use Rattle.bounds.specs.declared.settings.Settings.{Settings}
+use Rattle.bounds.specs.SetUp.{set-up-verdict}
+use Rattle.clock.specs.Draws.{register}
+use Rattle.clock.specs.Epochs.{golden-ticket}
 
 pub data Answer : Type 0 where
   number : ℕ → Answer
   port : Option Port → Answer
   slot : Slot → Answer
   ports : List Port → Answer
+  verdict : Verdict (Unit {0}) → Answer
 
 pub data Row : Type 0 where
   is : Answer → Answer → Row
@@ -53,6 +58,10 @@ pair golden = handed (flit 5 0 ∷ flit 6 0 ∷ None ∷ None ∷ []) (Some N �
 abbrev three : Handing
 three = handed (flit 5 3 ∷ None ∷ flit 2 3 ∷ flit 9 1 ∷ []) (Some E ∷ None ∷ Some E ∷ Some E ∷ []) 0 ones
 
+-- packets of two words
+abbrev two-words : ℕ → Settings
+two-words epoch = record { tickets = 1; words = 2; epoch = epoch; seed = 1 }
+
 abbrev pub table : List Row
 table =
     -- 0 E 1 W leaves node 2 without a way
@@ -66,4 +75,14 @@ table =
     ∷ is (ports (chipper-turn (pair 0) .to E ∷ chipper-turn (pair 0) .to N ∷ [])) (ports (N ∷ E ∷ []))
     ∷ is (ports (chipper-turn (pair 5) .to N ∷ chipper-turn (pair 5) .to E ∷ [])) (ports (N ∷ E ∷ []))
     ∷ is (ports (bless-turn three .to N ∷ bless-turn three .to S ∷ bless-turn three .to W ∷ [])) (ports (N ∷ W ∷ E ∷ []))
+    -- the draw register 0001h, shifted once and twice
+    ∷ is (number (register 1 1)) (number 0xB400)
+    ∷ is (number (register 1 2)) (number 0x5A00)
+    -- two tickets, epochs of four cycles, in cycles 3, 4 and 8
+    ∷ is (number (golden-ticket 2 4 3)) (number 0)
+    ∷ is (number (golden-ticket 2 4 4)) (number 1)
+    ∷ is (number (golden-ticket 2 4 8)) (number 0)
+    -- a reach of 3 asks for epochs of 2 × 4 cycles
+    ∷ is (verdict (set-up-verdict six (two-words 7))) (verdict (refused 2 []))
+    ∷ is (verdict (set-up-verdict six (two-words 8))) (verdict (granted tt))
     ∷ []

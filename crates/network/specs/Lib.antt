@@ -1,0 +1,5 @@
+pub mod Log
+pub mod Cycle
+pub mod Runs
+pub mod Promises
+pub mod Computed
