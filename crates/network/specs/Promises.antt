@@ -169,10 +169,10 @@ pub record Promised (F : Fabric) (P : Settings) (run : List Call) : Type 0 where
   pub leads : Leads F P run state
   pub only : (s : State) → Leads F P run s → s ≡ state
   pub kept : (s : State) → Leads F P run s → Kept F P run s
+  pub answered : (s : State) (k : Call) → Answered F P s k
   -- where a cycle is granted, its events come into the caller's line after what the line held
-  pub seen : (s : State) → Leads F P run s → (q q′ : Queue Event) (k : ℕ) (r : State) (v : Serves F P s (cycle q) (cycling (granted k) q′) r) →
+  pub seen : (s : State) (q q′ : Queue Event) (k : ℕ) (r : State) (v : Serves F P s (cycle q) (cycling (granted k) q′) r) →
       Sound q → contents q′ ≡ contents q ++ puts v
-  pub answered : (s : State) → Leads F P run s → (k : Call) → Answered F P s k
 
 -- it is promised of every layout and every switch that keep their laws, all settings that set-up accepts, and every run of calls
 abbrev pub Always-kept : Type 0
