@@ -1,0 +1,13 @@
+pub mod Promising
+pub mod Recording
+pub mod Pigeons
+pub mod Looking
+pub mod Setting
+pub mod Offers
+pub mod Collects
+pub mod Stepping
+pub mod Putting
+pub mod Takes
+pub mod Lets
+pub mod Working
+pub mod Rounds

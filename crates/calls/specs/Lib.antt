@@ -1,0 +1,5 @@
+pub mod Fits
+pub mod Records
+pub mod Steps
+pub mod Follow
+pub mod Midway
