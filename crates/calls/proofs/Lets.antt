@@ -3,7 +3,6 @@ use Prim.Native.Nat.{ℕ, _+_, _<_}
 use mathlib.Core.Path.{_≡_, refl, sym, ap, subst, subst₂, fun-ext, _∙_}
 use mathlib.Core.Logic.{_⊎_, inl, inr}
 use mathlib.Core.List.{List, [], _∷_, _++_}
-use mathlib.Core.Bool.{false}
 use native.Mathlib.Omega.{arith}
 use lib.ListN.{length, getD, set, drop}
 use Rattle.std.specs.declared.option.Option.{Option}
@@ -22,7 +21,7 @@ use Rattle.calls.specs.declared.waits.Waits.{Waits}
 use Rattle.calls.specs.declared.tables.Tables.{Tables}
 use Rattle.network.specs.Log.{Log, packet, size, word, aim, sent, received, waiting}
 use Rattle.network.specs.Log.Happening.{entered}
-use Rattle.network.specs.Cycle.{Fabric, State, entered-at}
+use Rattle.network.specs.Cycle.{Fabric, State, entered-at, in-slot-order}
 use Rattle.bounds.specs.declared.settings.Settings.{Settings}
 use Rattle.bounds.specs.SetUp.{all-tickets}
 use Rattle.network.specs.Computed.{gap, placed, next-of, with-flit, left, entering, ready}
@@ -31,14 +30,14 @@ use Rattle.network.specs.Runs.{put-all, told}
 use Rattle.network.proofs.Invariant.{Inv, Opened, Each, Waits as Waiting}
 use Rattle.calls.specs.Records.{no-ticket, no-waits, line-of, Keeps, Lets-go, Lets-in}
 use Rattle.calls.specs.Follow.{Recorded, Lined, Records, Queued}
-use Rattle.calls.specs.Midway.{four, Between, Own, Let}
+use Rattle.calls.specs.Midway.{Between, Own, Let}
 use Rattle.network.proofs.Places.{some-none, some-same}
 use Rattle.calls.proofs.Setting.{ticket-below}
 use Rattle.calls.proofs.Offers.{like}
-use Rattle.calls.proofs.Takes.{at-four, set-four, between, change}
+use Rattle.calls.proofs.Takes.{at-ordered, set-ordered, between, change}
 
 module _ (F : Fabric) (i : Tables) (s : State) (l : Log) (n : ℕ) (law : Lawful (F .plan)) (inv : Inv F (i .settings) s 0) (h : n < F .plan .nodes)
-    (own : Own (i .settings) s n l) (b : Between F s l i) (places : List (Option Flit)) (pl : places ≡ four (left F (i .settings) s n)) where
+    (own : Own (i .settings) s n l) (b : Between F s l i) (places : List (Option Flit)) (pl : places ≡ in-slot-order (left F (i .settings) s n)) where
   abbrev P : Settings
   P = i .settings
 
@@ -46,7 +45,7 @@ module _ (F : Fabric) (i : Tables) (s : State) (l : Log) (n : ℕ) (law : Lawful
   T = i .settings .tickets
 
   same-gap : gap (at places) ≡ gap (left F P s n)
-  same-gap = ap (λ xs. gap (at xs)) pl ∙ ap gap (fun-ext (at-four (left F P s n)))
+  same-gap = ap (λ xs. gap (at xs)) pl ∙ ap gap (fun-ext (at-ordered (left F P s n)))
 
   stay : (j : Tables) (q : Queue Event) → Keeps i j → j .tickets ≡ i .tickets → j .waits ≡ i .waits → entering F P s n ≡ None → Let F P s n l j q q places
   unfolding ready
@@ -54,7 +53,7 @@ module _ (F : Fabric) (i : Tables) (s : State) (l : Log) (n : ℕ) (law : Lawful
       record {
         shows = subst (λ (o : Option (Port × Flit)). Between F s (entered-at n o ++ l) j) (sym e)
             (between F s l l i j k b (subst (λ (xs : List Ticket). Records (all-tickets (F .plan) P) xs l) (sym ti) (b .records)) (subst (λ (xs : List Waits). Queued (F .plan .nodes) T xs l) (sym wa) (b .queued)));
-        gives = pl ∙ ap (λ (o : Option (Port × Flit)). four (with-flit o (left F P s n))) (sym e);
+        gives = pl ∙ ap (λ (o : Option (Port × Flit)). in-slot-order (with-flit o (left F P s n))) (sym e);
         line = ap (λ (o : Option (Port × Flit)). put-all q (told (entered-at n o))) (sym e);
       }
 
@@ -187,9 +186,9 @@ module _ (F : Fabric) (i : Tables) (s : State) (l : Log) (n : ℕ) (law : Lawful
           record {
             shows = subst (λ (x : Option (Port × Flit)). Between F s (entered-at n x ++ l) j) (sym entering-is) (between F s l then i j (lets .keeps) b records queued);
             gives =
-                pa ∙ ap (λ xs. set xs (place-of p) (Some f)) pl ∙ set-four (left F P s n) p (Some f)
-                ∙ ap (λ (x : Flit). four (with-flit (Some (p, x)) (left F P s n))) same
-                ∙ ap (λ (x : Option (Port × Flit)). four (with-flit x (left F P s n))) (sym entering-is);
+                pa ∙ ap (λ xs. set xs (place-of p) (Some f)) pl ∙ set-ordered (left F P s n) p (Some f)
+                ∙ ap (λ (x : Flit). in-slot-order (with-flit (Some (p, x)) (left F P s n))) same
+                ∙ ap (λ (x : Option (Port × Flit)). in-slot-order (with-flit x (left F P s n))) (sym entering-is);
             line =
                 uq
                 ∙ ap (λ (x : Flit). put q (record { cycle = y; kind = In; ticket = x .ticket; number = x .number; node = n; entered = x .entered })) same

@@ -1,5 +1,5 @@
 -- What a call does from any state, it promises of every run.
-use mathlib.Core.Path.{_≡_, refl, sym, ap₂, subst, subst₂, _∙_}
+use mathlib.Core.Path.{_≡_, refl, sym, ap₂, subst, _∙_}
 use mathlib.Core.List.{List, [], _∷_}
 use Rattle.fabric.specs.Layouts.{Lawful}
 use Rattle.fabric.specs.Verdicts.Verdict.{granted}
@@ -16,7 +16,7 @@ use Rattle.network.proofs.Running.{invariant}
 use Rattle.network.proofs.Solving.{served, clear-after, led-one}
 use Rattle.network.proofs.Kept.{kept}
 use Rattle.calls.specs.declared.tables.Tables.{Tables}
-use Rattle.calls.specs.Follow.{Shows, Follows, Continues, Refused, Promised, Served, Answers, Kept-throughout, Exactly, Whole}
+use Rattle.calls.specs.Follow.{Shows, Follows, Continues, Refused, Promised, Served, Answers, Kept-throughout, Whole}
 use Rattle.calls.specs.Follow.Served.{begun, one-more as served-more}
 use Rattle.calls.specs.Follow.Answers.{set-up as no-call, one-more as a-call}
 

@@ -13,6 +13,7 @@ use Rattle.fabric.specs.declared.parts.Port.{Port}
 use Rattle.fabric.specs.declared.parts.Port.the-variants.{N, E, S, W}
 use Rattle.fabric.specs.Ports.{place-of}
 use Rattle.fabric.specs.Layouts.{Plan, Lawful}
+use Rattle.switch.specs.Switches.{Lawful-switch}
 use Rattle.calls.specs.declared.tables.Tables.{Tables}
 use Rattle.calls.specs.declared.ticket.Ticket.{Ticket}
 use Rattle.calls.specs.declared.waits.Waits.{Waits}
@@ -27,7 +28,8 @@ use Rattle.fabric.specs.Verdicts.Verdict.{granted}
 use Rattle.network.proofs.Running.{peel}
 use Rattle.calls.specs.Fits.{Fits}
 use Rattle.calls.specs.Records.{blank, nobody, no-ticket, no-waits, Starts}
-use Rattle.calls.specs.Follow.{Recorded, Lined, Follows, slot-of}
+use Rattle.calls.specs.Follow.{Recorded, Lined, Follows, Begins, slot-of}
+use Rattle.calls.proofs.Promising.{whole}
 
 pub place-below : (p : Port) → place-of p < 4
 place-below N = omega arith
@@ -54,7 +56,7 @@ blank-recorded t =
     }
 
 -- tables that start follow the empty run
-pub begin : (F : Fabric) → Lawful (F .plan) → (i : Tables) (P : Settings) → Starts i P → set-up-verdict (F .plan) P ≡ granted tt → Follows F i [] fresh
+begin : (F : Fabric) → Lawful (F .plan) → (i : Tables) (P : Settings) → Starts i P → set-up-verdict (F .plan) P ≡ granted tt → Follows F i [] fresh
 begin F law i P x ok =
     record {
       lawful = subst (λ (Q : Settings). set-up-verdict (F .plan) Q ≡ granted tt) (sym (x .settings)) ok;
@@ -77,10 +79,13 @@ begin F law i P x ok =
       };
     }
 
+pub begins : (F : Fabric) → Lawful (F .plan) → Lawful-switch (F .turn) → (i : Tables) (P : Settings) → Starts i P → set-up-verdict (F .plan) P ≡ granted tt → Begins F P i
+begins F law sw i P x ok = let b = begin F law i P x ok in record { settings = x .settings; follows = b; whole = whole F law sw i (b .lawful) b }
+
 -- as a network stands before any set-up
-pub first-settings : (F : Fabric) → Lawful (F .plan) → set-up-verdict (F .plan) (record { tickets = 1; words = 1; epoch = 4096; seed = 1 }) ≡ granted tt
-first-settings F law =
-    cond-false _ _ _ (or-from _ _ (le-ltb 4096 (1 * (F .plan .reach + 1)) (let h = law .near in omega arith)) refl)
+pub first-settings : (p : Plan) → Lawful p → set-up-verdict p (record { tickets = 1; words = 1; epoch = 4096; seed = 1 }) ≡ granted tt
+first-settings p law =
+    cond-false _ _ _ (or-from _ _ (le-ltb 4096 (1 * (p .reach + 1)) (let h = law .near in omega arith)) refl)
 
 -- what set-up accepts fits
 pub fits : (p : Plan) (P : Settings) → set-up-verdict p P ≡ granted tt → Fits P

@@ -11,7 +11,7 @@ use Rattle.std.specs.declared.option.Option.the-variants.{Some, None}
 use mathlib.Core.Bool.{true, false}
 use Rattle.std.specs.Options.{isSome}
 use Rattle.std.proofs.shelf.Lists.{getD-set-same, getD-set-other}
-use Rattle.std.proofs.shelf.Tests.{cases-eq, cases-lt, both-ways}
+use Rattle.std.proofs.shelf.Tests.{cases-eq, both-ways}
 use Rattle.fabric.specs.declared.parts.Port.{Port}
 use Rattle.fabric.specs.declared.parts.Port.the-variants.{N, E, S, W}
 use Rattle.fabric.specs.declared.parts.Slot.{Slot}

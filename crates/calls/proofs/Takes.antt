@@ -3,7 +3,7 @@ use Prim.Native.Nat.{ℕ, _<_}
 use mathlib.Core.Path.{_≡_, refl, sym, ap, subst, fun-ext, _∙_}
 use mathlib.Core.Logic.{_⊎_, inl, inr}
 use mathlib.Core.List.{List, _∷_, _++_}
-use mathlib.Core.Bool.{true, cond, _&&_}
+use mathlib.Core.Bool.{cond, _&&_}
 use native.Mathlib.Omega.{arith}
 use lib.Dec.{eqb}
 use lib.ListN.{length, getD, set}
@@ -24,7 +24,7 @@ use Rattle.calls.specs.declared.waits.Waits.{Waits}
 use Rattle.calls.specs.declared.tables.Tables.{Tables}
 use Rattle.network.specs.Log.{Log, size, sent, received}
 use Rattle.network.specs.Log.Happening.{entered, off}
-use Rattle.network.specs.Cycle.{Fabric, State, golden-in, off-at}
+use Rattle.network.specs.Cycle.{Fabric, State, golden-in, off-at, in-slot-order}
 use Rattle.bounds.specs.declared.settings.Settings.{Settings}
 use Rattle.bounds.specs.SetUp.{all-tickets}
 use Rattle.network.specs.Computed.{due, best, same-port, without, taken, left}
@@ -33,22 +33,22 @@ use Rattle.network.specs.Runs.{put-all, told, count-off}
 use Rattle.network.proofs.Invariant.{Inv, Sits, Opened}
 use Rattle.calls.specs.Records.{no-ticket, Keeps, Receives, Takes-in}
 use Rattle.calls.specs.Follow.{slot-of, Recorded, Records, Queued}
-use Rattle.calls.specs.Midway.{four, Between, Took}
+use Rattle.calls.specs.Midway.{Between, Took}
 use Rattle.network.proofs.Nodes.{taken-here}
 use Rattle.calls.proofs.Setting.{ticket-below}
 use Rattle.calls.proofs.Offers.{like}
 
-pub at-four : (here : Port → Option Flit) (p : Port) → at (four here) p ≡ here p
-at-four here N = refl
-at-four here E = refl
-at-four here S = refl
-at-four here W = refl
+pub at-ordered : (here : Port → Option Flit) (p : Port) → at (in-slot-order here) p ≡ here p
+at-ordered here N = refl
+at-ordered here E = refl
+at-ordered here S = refl
+at-ordered here W = refl
 
-pub set-four : (here : Port → Option Flit) (p : Port) (o : Option Flit) → set (four here) (place-of p) o ≡ four (λ q. cond (same-port p q) o (here q))
-set-four here N o = refl
-set-four here E o = refl
-set-four here S o = refl
-set-four here W o = refl
+pub set-ordered : (here : Port → Option Flit) (p : Port) (o : Option Flit) → set (in-slot-order here) (place-of p) o ≡ in-slot-order (λ q. cond (same-port p q) o (here q))
+set-ordered here N o = refl
+set-ordered here E o = refl
+set-ordered here S o = refl
+set-ordered here W o = refl
 
 -- the tables after nothing but tickets and queues changed
 pub between : (F : Fabric) (s : State) (l m : Log) (i j : Tables) → Keeps i j → Between F s l i → Records (all-tickets (F .plan) (i .settings)) (j .tickets) m →
@@ -99,23 +99,23 @@ module _ (F : Fabric) (i : Tables) (s : State) (l : Log) (n g : ℕ) (law : Lawf
   P = i .settings
 
   -- what the code looks at is what the definition looks at
-  same-places : four (slot-of (i .slots) n) ≡ four (s .slot n)
-  same-places = ap four (fun-ext (λ p. b .slots n p h))
+  same-places : in-slot-order (slot-of (i .slots) n) ≡ in-slot-order (s .slot n)
+  same-places = ap in-slot-order (fun-ext (λ p. b .slots n p h))
 
-  pub same-best : best g (λ p. due n (at (four (slot-of (i .slots) n)) p)) ≡ taken F P s n
+  pub same-best : best g (λ p. due n (at (in-slot-order (slot-of (i .slots) n)) p)) ≡ taken F P s n
   unfolding taken
   same-best =
-      ap (λ x. best x (λ p. due n (at (four (slot-of (i .slots) n)) p))) gold
-      ∙ ap (best (golden-in F P (s .cycles))) (fun-ext (λ p. ap (due n) (at-four (slot-of (i .slots) n) p ∙ b .slots n p h)))
+      ap (λ x. best x (λ p. due n (at (in-slot-order (slot-of (i .slots) n)) p))) gold
+      ∙ ap (best (golden-in F P (s .cycles))) (fun-ext (λ p. ap (due n) (at-ordered (slot-of (i .slots) n) p ∙ b .slots n p h)))
 
   pub took-none : (j : Tables) (q : Queue Event) → Keeps i j → j .tickets ≡ i .tickets → j .waits ≡ i .waits → taken F P s n ≡ None →
-      Took F P s n l j q q (four (slot-of (i .slots) n)) 0
+      Took F P s n l j q q (in-slot-order (slot-of (i .slots) n)) 0
   unfolding left
   took-none j q k ti wa e =
       record {
         shows = subst (λ (o : Option (Port × Flit)). Between F s (off-at (s .cycles) n o ++ l) j) (sym e)
             (between F s l l i j k b (subst (λ (xs : List Ticket). Records (all-tickets (F .plan) P) xs l) (sym ti) (b .records)) (subst (λ (xs : List Waits). Queued (F .plan .nodes) (P .tickets) xs l) (sym wa) (b .queued)));
-        gives = same-places ∙ ap (λ (o : Option (Port × Flit)). four (without o (s .slot n))) (sym e);
+        gives = same-places ∙ ap (λ (o : Option (Port × Flit)). in-slot-order (without o (s .slot n))) (sym e);
         line = ap (λ (o : Option (Port × Flit)). put-all q (told (off-at (s .cycles) n o))) (sym e);
         count = ap (λ (o : Option (Port × Flit)). count-off (off-at (s .cycles) n o)) (sym e);
       }
@@ -134,7 +134,7 @@ module _ (F : Fabric) (i : Tables) (s : State) (l : Log) (n g : ℕ) (law : Lawf
     known = let a = opened .ticket in let c = ticket-below F law P (i .few) in omega arith
 
     pub took-some : (j : Tables) (q r : Queue Event) (places : List (Option Flit)) (y : ℕ) → Takes-in i j f →
-        places ≡ set (four (slot-of (i .slots) n)) (place-of p) None →
+        places ≡ set (in-slot-order (slot-of (i .slots) n)) (place-of p) None →
         y ≡ i .cycles → r ≡ put q (record { cycle = y; kind = Out; ticket = f .ticket; number = f .number; node = n; entered = f .entered }) → Took F P s n l j q r places 1
     unfolding left
     took-some j q r places y t pl ev li =
@@ -145,7 +145,7 @@ module _ (F : Fabric) (i : Tables) (s : State) (l : Log) (n g : ℕ) (law : Lawf
               (change (all-tickets (F .plan) P) (f .ticket) (i .tickets) (t .its) l (off f n (s .cycles) ∷ l) (t .within known) (b .records)
               (off-own f n (s .cycles) l _ (t .its) small (t .receives known)) (λ u d. off-other f n (s .cycles) l u _ d)))
               (subst (λ (xs : List Waits). Queued (F .plan .nodes) (P .tickets) xs l) (sym (t .waits)) (b .queued)));
-          gives = pl ∙ ap (λ xs. set xs (place-of p) None) same-places ∙ set-four (s .slot n) p None ∙ ap (λ (o : Option (Port × Flit)). four (without o (s .slot n))) (sym e);
+          gives = pl ∙ ap (λ xs. set xs (place-of p) None) same-places ∙ set-ordered (s .slot n) p None ∙ ap (λ (o : Option (Port × Flit)). in-slot-order (without o (s .slot n))) (sym e);
           line =
               li ∙ ap (λ c. put q (record { cycle = c; kind = Out; ticket = f .ticket; number = f .number; node = n; entered = f .entered })) (ev ∙ b .cycles)
               ∙ ap (λ (o : Option (Port × Flit)). put-all q (told (off-at (s .cycles) n o))) (sym e);

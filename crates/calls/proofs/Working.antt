@@ -1,6 +1,6 @@
 -- One node's work in a cycle.
 use Prim.Native.Nat.{ℕ, suc, _+_, _*_, _<_, _≤_}
-use mathlib.Core.Path.{_≡_, refl, sym, ap, subst, subst₂, _∙_}
+use mathlib.Core.Path.{_≡_, refl, sym, ap, subst, subst₂, fun-ext, _∙_}
 use mathlib.Core.Logic.{_⊎_, inl, inr}
 use mathlib.Core.List.{List, [], _∷_, _++_, append-assoc}
 use mathlib.Core.Bool.{Bool}
@@ -13,7 +13,6 @@ use Rattle.std.specs.declared.option.Option.the-variants.{Some, None}
 use Rattle.std.proofs.shelf.Lists.{append-nil, length-append}
 use Rattle.std.proofs.shelf.Tests.{cases-eq}
 use Rattle.fabric.specs.declared.parts.Port.{Port}
-use Rattle.fabric.specs.declared.parts.Port.the-variants.{N as portN, E as portE, S as portS, W as portW}
 use Rattle.fabric.specs.declared.parts.Flit.{Flit}
 use Rattle.fabric.specs.Layouts.{Lawful}
 use Rattle.switch.specs.Switches.{Handing, at, turned}
@@ -23,7 +22,7 @@ use Rattle.calls.specs.declared.waits.Waits.{Waits}
 use Rattle.calls.specs.declared.tables.Tables.{Tables}
 use Rattle.network.specs.Log.{Log, sent}
 use Rattle.network.specs.Log.Happening.{offered, entered, off, collected}
-use Rattle.network.specs.Cycle.{Fabric, State, golden-in, wish-of, off-at, entered-at}
+use Rattle.network.specs.Cycle.{Fabric, State, golden-in, wish-of, off-at, entered-at, in-slot-order}
 use Rattle.bounds.specs.declared.settings.Settings.{Settings}
 use Rattle.bounds.specs.SetUp.{all-tickets}
 use Rattle.clock.specs.Draws.{register, shifted, draw-bits}
@@ -33,10 +32,11 @@ use Rattle.network.specs.Runs.{put-all, told, count-off}
 use Rattle.network.proofs.Invariant.{Inv}
 use Rattle.calls.specs.Steps.{wished, far-place, Spread}
 use Rattle.calls.specs.Follow.{slot-of, Records, Queued}
-use Rattle.calls.specs.Midway.{four, Between, Took, Takes-off, Own, Let, Enters, Node-works}
+use Rattle.calls.specs.Midway.{Between, Took, Takes-off, Own, Let, Enters, Node-works}
 use Rattle.network.proofs.Cycling.{off-packet, off-waiting, off-sent, keeps-packet, keeps-waiting, keeps-sent, grown, half-log, grown-more}
 use Rattle.calls.proofs.Putting.{put-length, put-more}
 use Rattle.calls.proofs.Stepping.{far-same}
+use Rattle.calls.proofs.Takes.{at-ordered}
 
 -- the events and the count of happenings
 told-append : (xs ys : Log) → told (xs ++ ys) ≡ told ys ++ told xs
@@ -124,16 +124,16 @@ module _ (F : Fabric) (P : Settings) (s : State) where
 
   -- what the code hands to the switch
   handed : (n g : ℕ) (r : ℕ) (places : List (Option Flit)) (wishes : List (Option Port)) (ds : List Bool) → g ≡ golden-in F P (s .cycles) →
-      places ≡ four (ready F P s n) →
-      wishes ≡ wished (F .plan) n (getD places 0 None) ∷ wished (F .plan) n (getD places 1 None) ∷ wished (F .plan) n (getD places 2 None) ∷ wished (F .plan) n (getD places 3 None) ∷ [] →
+      places ≡ in-slot-order (ready F P s n) →
+      wishes ≡ in-slot-order (λ p. wished (F .plan) n (at places p)) →
       r ≡ register (P .seed) (s .cycles * F .plan .nodes + n + 1) → ds ≡ draw-bits r →
       _≡_ {A = Handing} (record { places = places; wishes = wishes; golden = g; draws = ds }) (handing F P s n)
   unfolding handing
   handed n g r places wishes ds eg ep ew er ed =
-      let w : wishes ≡ wish-of F n (ready F P s n portN) ∷ wish-of F n (ready F P s n portE) ∷ wish-of F n (ready F P s n portS) ∷ wish-of F n (ready F P s n portW) ∷ [] =
+      let w : wishes ≡ in-slot-order (λ p. wish-of F n (ready F P s n p)) =
       ew
-      ∙ ap (λ (xs : List (Option Flit)). wished (F .plan) n (getD xs 0 None) ∷ wished (F .plan) n (getD xs 1 None) ∷ wished (F .plan) n (getD xs 2 None) ∷ wished (F .plan) n (getD xs 3 None) ∷ []) ep
-      ∙ (λ k. same-wish F n (ready F P s n portN) k ∷ same-wish F n (ready F P s n portE) k ∷ same-wish F n (ready F P s n portS) k ∷ same-wish F n (ready F P s n portW) k ∷ []) in
+      ∙ ap (λ (xs : List (Option Flit)). in-slot-order (λ p. wished (F .plan) n (at xs p))) ep
+      ∙ ap (λ (x : Port → Option Port). in-slot-order x) (fun-ext (λ p. ap (wished (F .plan) n) (at-ordered (ready F P s n) p) ∙ same-wish F n (ready F P s n p))) in
       let d = ed ∙ ap draw-bits er in
       λ k. record { places = ep k; wishes = w k; golden = eg k; draws = d k }
 
@@ -142,7 +142,7 @@ module _ (F : Fabric) (law : Lawful (F .plan)) (i i₁ i₂ i₃ : Tables) (n g 
     (takes : Takes-off i i₁ n g u u₁ left-places off) (enters : Enters i₁ i₂ n u₁ u₂ left-places places)
     (reg : i₃ .register ≡ shifted (i₂ .register)) (bits : ds ≡ draw-bits (i₃ .register))
     (se : i₃ .settings ≡ i₂ .settings) (cy : i₃ .cycles ≡ i₂ .cycles) (sl : i₃ .slots ≡ i₂ .slots) (ti : i₃ .tickets ≡ i₂ .tickets) (wa : i₃ .waits ≡ i₂ .waits)
-    (wish : wishes ≡ wished (F .plan) n (getD places 0 None) ∷ wished (F .plan) n (getD places 1 None) ∷ wished (F .plan) n (getD places 2 None) ∷ wished (F .plan) n (getD places 3 None) ∷ [])
+    (wish : wishes ≡ in-slot-order (λ p. wished (F .plan) n (at places p)))
     (route : leaving ≡ turned (F .turn (record { places = places; wishes = wishes; golden = g; draws = ds })) places)
     (spread : Spread (F .plan) n leaving before after) where
   abbrev P : Settings
@@ -171,7 +171,7 @@ module _ (F : Fabric) (law : Lawful (F .plan)) (i i₁ i₂ i₃ : Tables) (n g 
             subst (λ (Q : Settings). Let F Q s n (half-log F P s n) i₂ u₁ u₂ places) same-1
             (enters .lets F s (half-log F P s n) law (subst (λ (Q : Settings). Inv F Q s 0) (sym same-1) inv) hn
             (subst (λ (Q : Settings). Own Q s n (half-log F P s n)) (sym same-1) (own-log F P s inv n)) (took .shows)
-            (subst (λ (Q : Settings). left-places ≡ four (left F Q s n)) (sym same-1) (took .gives)) room-1) in
+            (subst (λ (Q : Settings). left-places ≡ in-slot-order (left F Q s n)) (sym same-1) (took .gives)) room-1) in
             let drawn : i₃ .register ≡ register (P .seed) (suc (s .cycles * F .plan .nodes + n)) =
             reg ∙ ap shifted (enters .keeps .register ∙ takes .keeps .register ∙ m .drawn) in
             let e1 : suc (s .cycles * F .plan .nodes + n) ≡ s .cycles * F .plan .nodes + n + 1 = omega arith in

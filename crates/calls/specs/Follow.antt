@@ -1,7 +1,7 @@
 -- How the tables of the code stand for a state, and what every call promises.
 use Prim.Native.Nat.{ℕ, _+_, _*_, _<_, _≤_}
 use mathlib.Core.Path.{_≡_}
-use mathlib.Core.List.{List, [], _∷_}
+use mathlib.Core.List.{List, [], _∷_, _++_}
 use mathlib.Core.Bool.{Bool, true, false, not}
 use lib.ListN.{getD, length}
 use Rattle.std.specs.declared.option.Option.{Option}
@@ -114,15 +114,13 @@ pub record Exactly (F : Fabric) (P : Settings) (ks : List Call) (os : List Outco
 abbrev pub Whole : Fabric → Tables → Type 0
 Whole F i = (ks : List Call) (os : List Outcome) (j : Tables) → Served F i ks os j → Exactly F (i .settings) ks os
 
--- what set-up promises: where it grants, the network is where no call has led yet, and where it refuses, nothing is changed
-pub record Sets-up (F : Fabric) (P : Settings) (i j : Tables) (v : Verdict (Unit {0})) : Type 0 where
-  pub exact : v ≡ set-up-verdict (F .plan) P
-  pub settings : v ≡ granted tt → j .settings ≡ P
-  pub begins : v ≡ granted tt → Follows F j [] fresh
-  pub whole : v ≡ granted tt → Whole F j
-  pub unchanged : declined v ≡ true → j ≡ i
+-- just set up, with the whole promise
+pub record Begins (F : Fabric) (P : Settings) (i : Tables) : Type 0 where
+  pub settings : i .settings ≡ P
+  pub follows : Follows F i [] fresh
+  pub whole : Whole F i
 
--- a flit that entered is taken off once l more cycles are carried out
+-- whatever calls come yet: each flit that entered is taken off once l more cycles are carried out
 abbrev pub Off-within : Fabric → Tables → ℕ → Type 0
-Off-within F i l = (run : List Call) (s : State) → Follows F i run s → (f : Flit) (n : ℕ) → Stands (entered f n) (s .log) →
-    f .entered + 1 + l ≤ s .cycles → Off-once f (s .log)
+Off-within F i l = (run : List Call) (s : State) → Follows F i run s → (more : List Call) (r : State) → Leads F (i .settings) (more ++ run) r →
+    (f : Flit) (n : ℕ) → Stands (entered f n) (r .log) → f .entered + 1 + l ≤ r .cycles → Off-once f (r .log)

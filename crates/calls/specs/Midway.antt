@@ -1,19 +1,18 @@
 -- A network in the midst of a cycle: how the tables stand between two steps, and after the first n nodes.
 use Prim.Native.Nat.{ℕ, _+_, _*_, _/_, _<_, _≤_}
 use mathlib.Core.Path.{_≡_}
-use mathlib.Core.List.{List, [], _∷_, _++_}
+use mathlib.Core.List.{List, _++_}
 use lib.ListN.{getD, length}
 use Rattle.std.specs.declared.option.Option.{Option}
 use Rattle.std.specs.declared.option.Option.the-variants.{None}
 use Rattle.fabric.specs.declared.parts.Port.{Port}
-use Rattle.fabric.specs.declared.parts.Port.the-variants.{N, E, S, W}
 use Rattle.fabric.specs.declared.parts.Flit.{Flit}
 use Rattle.fabric.specs.Layouts.{Lawful}
 use Rattle.switch.specs.Switches.{at, turned}
 use Rattle.network.specs.declared.event.Event.{Event}
 use Rattle.calls.specs.declared.tables.Tables.{Tables}
 use Rattle.network.specs.Log.{Log, packet, sent, waiting}
-use Rattle.network.specs.Cycle.{Fabric, State, golden-in, off-at, entered-at}
+use Rattle.network.specs.Cycle.{Fabric, State, golden-in, off-at, entered-at, in-slot-order}
 use Rattle.bounds.specs.declared.settings.Settings.{Settings}
 use Rattle.bounds.specs.SetUp.{all-tickets}
 use Rattle.clock.specs.Draws.{register}
@@ -25,10 +24,6 @@ use Rattle.calls.specs.Records.{Keeps}
 use Rattle.calls.specs.Steps.{far-place}
 use Rattle.calls.specs.Follow.{slot-of, Records, Queued, Shows}
 
--- four places, in slot order
-abbrev pub four : (Port → Option Flit) → List (Option Flit)
-four here = here N ∷ here E ∷ here S ∷ here W ∷ []
-
 -- the slots and the cycle of a state, and the tickets of a log
 pub record Between (F : Fabric) (s : State) (l : Log) (i : Tables) : Type 0 where
   pub cycles : i .cycles ≡ s .cycles
@@ -39,7 +34,7 @@ pub record Between (F : Fabric) (s : State) (l : Log) (i : Tables) : Type 0 wher
 -- step 1, at a node
 pub record Took (F : Fabric) (P : Settings) (s : State) (n : ℕ) (l : Log) (j : Tables) (q r : Queue Event) (places : List (Option Flit)) (off : ℕ) : Type 0 where
   pub shows : Between F s (off-at (s .cycles) n (taken F P s n) ++ l) j
-  pub gives : places ≡ four (left F P s n)
+  pub gives : places ≡ in-slot-order (left F P s n)
   pub line : r ≡ put-all q (told (off-at (s .cycles) n (taken F P s n)))
   pub count : off ≡ count-off (off-at (s .cycles) n (taken F P s n))
 
@@ -57,13 +52,13 @@ pub record Own (P : Settings) (s : State) (n : ℕ) (l : Log) : Type 0 where
 
 pub record Let (F : Fabric) (P : Settings) (s : State) (n : ℕ) (l : Log) (j : Tables) (q r : Queue Event) (places : List (Option Flit)) : Type 0 where
   pub shows : Between F s (entered-at n (entering F P s n) ++ l) j
-  pub gives : places ≡ four (ready F P s n)
+  pub gives : places ≡ in-slot-order (ready F P s n)
   pub line : r ≡ put-all q (told (entered-at n (entering F P s n)))
 
 pub record Enters (i j : Tables) (n : ℕ) (q r : Queue Event) (before after : List (Option Flit)) : Type 0 where
   pub keeps : Keeps i j
   pub lets : (F : Fabric) (s : State) (l : Log) → Lawful (F .plan) → Inv F (i .settings) s 0 → n < F .plan .nodes → Own (i .settings) s n l →
-      Between F s l i → before ≡ four (left F (i .settings) s n) → q .held < length (q .memory) → Let F (i .settings) s n l j q r after
+      Between F s l i → before ≡ in-slot-order (left F (i .settings) s n) → q .held < length (q .memory) → Let F (i .settings) s n l j q r after
 
 -- after the first n nodes
 pub record Midway (F : Fabric) (P : Settings) (s : State) (n : ℕ) (i : Tables) (arrived : List (Option Flit)) (q r : Queue Event) (off : ℕ) : Type 0 where

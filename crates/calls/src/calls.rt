@@ -1,17 +1,17 @@
 // A network of a layout and a switch, and the calls that it answers.
 ghost use Prim.Native.Nat.{_<_};
 ghost use mathlib.Core.Path.{_≡_};
-ghost use mathlib.Core.List.{[]};
+ghost use mathlib.Core.Bool.{true};
 ghost use denote.Ref.{name};
 ghost use Rattle.fabric.specs.Refusals.{shown};
 ghost use Rattle.line.specs.Lines.{queue-of};
+ghost use Rattle.fabric.specs.Verdicts.Verdict.{granted};
+ghost use Rattle.bounds.specs.SetUp.{set-up-verdict};
 ghost use Rattle.bounds.specs.Lateness.{latest};
-ghost use Rattle.network.specs.Cycle.{Fabric};
-ghost use Rattle.network.specs.Runs.{fresh};
 ghost use Rattle.network.specs.Runs.Call.{offer as offers, cycle as cycles, collect as collects, look as looks};
 ghost use Rattle.network.specs.Runs.Outcome.{offering, cycling, collecting, looking};
 ghost use Rattle.calls.specs.Midway.{Node-works};
-ghost use Rattle.calls.specs.Follow.{Follows, Promised, Sets-up, Off-within};
+ghost use Rattle.calls.specs.Follow.{declined, Promised, Begins, Off-within};
 use super::steps::spread;
 use super::steps::wishes;
 use super::tables::EMPTY;
@@ -47,8 +47,7 @@ pub struct Network<L, S> {
 
 impl<L: Layout, S: Switch> Network<L, S> {
     pub fn new(layout: L, switch: S) -> Network<L, S>
-        ensures settings { λ r. ⌜ r .inner .settings ≡ record { tickets = 1; words = 1; epoch = 4096; seed = 1 } ⌝ }
-        ensures begins { λ r. ⌜ Follows (record { plan = plan layout; turn = turn switch }) (r .inner) [] fresh ⌝ }
+        ensures begins { λ r. ⌜ Begins (record { plan = plan layout; turn = turn switch }) (record { tickets = 1; words = 1; epoch = 4096; seed = 1 }) (r .inner) ⌝ }
         ensures parts { λ r. ⌜ r .layout ≡ layout ⌝ ∗ ⌜ r .switch ≡ switch ⌝ }
     {
         let inner = Tables::fresh(FIRST);
@@ -61,7 +60,9 @@ impl<L: Layout, S: Switch> Network<L, S> {
 
     // No cycle is carried out then, all slots are empty and all tickets free.
     pub fn set_up(&mut self, settings: Settings) -> Result<(), Refusal>
-        ensures begins { λ r. ⌜ Sets-up (record { plan = plan (now (self .entry) .layout); turn = turn (now (self .entry) .switch) }) settings (now (self .entry) .inner) (now (self .exit) .inner) (shown r) ⌝ }
+        ensures exact { λ r. ⌜ shown r ≡ set-up-verdict (plan (now (self .entry) .layout)) settings ⌝ }
+        ensures begins { λ r. ⌜ (shown r ≡ granted tt → Begins (record { plan = plan (now (self .entry) .layout); turn = turn (now (self .entry) .switch) }) settings (now (self .exit) .inner)) ⌝ }
+        ensures unchanged { λ r. ⌜ (declined (shown r) ≡ true → now (self .exit) .inner ≡ now (self .entry) .inner) ⌝ }
         ensures parts { λ _. ⌜ now (self .exit) .layout ≡ now (self .entry) .layout ⌝ ∗ ⌜ now (self .exit) .switch ≡ now (self .entry) .switch ⌝ }
     {
         settings.judge(&self.layout)?;

@@ -1,5 +1,5 @@
 // A network: its tables, and the calls that it answers.
-mod calls;
+pub mod calls;
 mod steps;
 mod tables;
 mod telling;

@@ -1,12 +1,12 @@
 // The steps of one node's work in a cycle, on its four places.
-ghost use Prim.Native.Nat.{ℕ, _+_, _*_, _<_};
+ghost use Prim.Native.Nat.{_+_, _*_, _<_};
 ghost use mathlib.Core.Path.{_≡_};
-ghost use mathlib.Core.List.{[], _∷_};
-ghost use lib.ListN.{length, getD, set};
+ghost use lib.ListN.{set};
 ghost use Rattle.std.specs.declared.option.Option.the-variants.{None};
 ghost use Rattle.fabric.specs.Ports.{place-of};
 ghost use Rattle.switch.specs.Switches.{at};
 ghost use Rattle.network.specs.Computed.{due as is-due, better as is-better, best as is-best, ahead as is-ahead, gap as is-gap};
+ghost use Rattle.network.specs.Cycle.{in-slot-order};
 ghost use Rattle.network.specs.Runs.{port-of};
 ghost use Rattle.calls.specs.Steps.{wished, far-place, Spread};
 use super::tables::SLOTS;
@@ -108,7 +108,7 @@ fn wish<L: Layout>(layout: &L, node: usize, place: Option<Flit>) -> Option<Port>
 }
 
 pub(crate) fn wishes<L: Layout>(layout: &L, node: usize, places: [Option<Flit>; 4]) -> [Option<Port>; 4]
-    ensures { λ r. ⌜ r ≡ wished (plan (now (layout .entry))) node (getD places 0 None) ∷ wished (plan (now (layout .entry))) node (getD places 1 None) ∷ wished (plan (now (layout .entry))) node (getD places 2 None) ∷ wished (plan (now (layout .entry))) node (getD places 3 None) ∷ [] ⌝ }
+    ensures { λ r. ⌜ r ≡ in-slot-order (λ p. wished (plan (now (layout .entry))) node (at places p)) ⌝ }
 {
     [
         wish(layout, node, places[0]),

@@ -1,12 +1,11 @@
 // What the calls do to the tables.
-ghost use Prim.Native.Nat.{ℕ, _*_, _/_, _%_, _<_, _≤_};
-ghost use mathlib.Core.List.{[], _∷_};
+ghost use Prim.Native.Nat.{_*_, _<_, _≤_};
 ghost use mathlib.Core.Path.{_≡_};
-ghost use lib.ListN.{length, getD, set, replicate};
+ghost use lib.ListN.{length};
 ghost use Rattle.std.specs.declared.option.Option.the-variants.{None};
 ghost use Rattle.calls.specs.Fits.{Fits};
 ghost use Rattle.calls.specs.Records.{Starts, Accepts, Frees, Takes-in, Lets-in, Advances};
-ghost use Rattle.fabric.specs.declared.parts.Port.the-variants.{N as PortN, E as PortE, S as PortS, W as PortW};
+ghost use Rattle.network.specs.Cycle.{in-slot-order};
 ghost use Rattle.clock.specs.Draws.{shifted, draw-bits};
 ghost use Rattle.clock.specs.Epochs.{golden-ticket};
 ghost use Rattle.calls.specs.Follow.{slot-of};
@@ -102,7 +101,7 @@ impl Tables {
     // The four places of a node.
     pub(crate) fn places(&self, node: usize) -> [Option<Flit>; 4]
         requires { ⌜ node < 64 ⌝ }
-        ensures { λ r. ⌜ r ≡ slot-of (now (self .entry) .slots) node PortN ∷ slot-of (now (self .entry) .slots) node PortE ∷ slot-of (now (self .entry) .slots) node PortS ∷ slot-of (now (self .entry) .slots) node PortW ∷ [] ⌝ }
+        ensures { λ r. ⌜ r ≡ in-slot-order (slot-of (now (self .entry) .slots) node) ⌝ }
     {
         [
             self.slots[4 * node],

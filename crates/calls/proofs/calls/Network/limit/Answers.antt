@@ -1,7 +1,7 @@
 use Prim.Native.Nat.{ℕ, _+_, _*_, _≤_}
-use mathlib.Core.Path.{_≡_, ap, subst}
+use mathlib.Core.Path.{ap, subst}
+use mathlib.Core.List.{_++_}
 use Rattle.bounds.specs.declared.settings.Settings.{Settings}
-use Rattle.bounds.specs.Lateness.{latest}
 use Rattle.network.specs.Cycle.{Fabric}
 use Rattle.network.proofs.Kept.{kept}
 use Rattle.calls.proofs.calls.Network.limit.Needs as need
@@ -14,7 +14,7 @@ returns g c =
     let e = ap (λ (n : ℕ). (n * P .tickets + 1) * P .epoch) (c .nodes .ensures) in
     record {
       exact = e;
-      promised = λ run r f h n k late.
-          kept F P (g .L·Layout·met .lawful (s .layout)) (g .S·Switch·met .lawful (s .switch)) (f .lawful) run .kept r (f .leads) .delivered h n k
+      promised = λ run t f more r led h n k late.
+          kept F P (g .L·Layout·met .lawful (s .layout)) (g .S·Switch·met .lawful (s .switch)) (f .lawful) (more ++ run) .kept r led .delivered h n k
           (subst (λ (x : ℕ). h .entered + 1 + x ≤ r .cycles) e late);
     }
