@@ -28,6 +28,7 @@ use Rattle.network.specs.Computed.{gap, placed, next-of, with-flit, left, enter
 use Rattle.line.specs.Queues.{Queue, put}
 use Rattle.network.specs.Runs.{put-all, told}
 use Rattle.network.proofs.Invariant.{Inv, Opened, Each, Waits as Waiting}
+use Rattle.calls.specs.Telling.{event-of}
 use Rattle.calls.specs.Records.{no-ticket, no-waits, line-of, Keeps, Lets-go, Lets-in}
 use Rattle.calls.specs.Follow.{Recorded, Lined, Records, Queued}
 use Rattle.calls.specs.Midway.{Between, Own, Let}
@@ -179,7 +180,7 @@ module _ (F : Fabric) (i : Tables) (s : State) (l : Log) (n : ℕ) (law : Lawful
           go (inr a) (inr d) = subst₂ (λ (x : List Waits) (xs : List ℕ). Lined (getD x m no-waits) xs) (sym (goes .stays a)) (sym (elsewhere d)) (b .queued m k)
 
       some : (f : Flit) → o ≡ Some f → (q u : Queue Event) (after : List (Option Flit)) (y : ℕ) → after ≡ set places (place-of p) (Some f) → y ≡ i .cycles →
-          u ≡ put q (record { cycle = y; kind = In; ticket = f .ticket; number = f .number; node = n; entered = f .entered }) → Let F P s n l j q u after
+          u ≡ put q (event-of y In f n) → Let F P s n l j q u after
       unfolding ready
       some f of q u after y pa yc uq =
           let same : f ≡ flit = some-same o f flit of flit-is in
@@ -191,8 +192,8 @@ module _ (F : Fabric) (i : Tables) (s : State) (l : Log) (n : ℕ) (law : Lawful
                 ∙ ap (λ (x : Option (Port × Flit)). in-slot-order (with-flit x (left F P s n))) (sym entering-is);
             line =
                 uq
-                ∙ ap (λ (x : Flit). put q (record { cycle = y; kind = In; ticket = x .ticket; number = x .number; node = n; entered = x .entered })) same
-                ∙ ap (λ c. put q (record { cycle = c; kind = In; ticket = t; number = flit .number; node = n; entered = s .cycles })) (yc ∙ b .cycles)
+                ∙ ap (λ (x : Flit). put q (event-of y In x n)) same
+                ∙ ap (λ c. put q (event-of c In flit n)) (yc ∙ b .cycles)
                 ∙ ap (λ (x : Option (Port × Flit)). put-all q (told (entered-at n x))) (sym entering-is);
           }
 
@@ -204,7 +205,7 @@ module _ (F : Fabric) (i : Tables) (s : State) (l : Log) (n : ℕ) (law : Lawful
         go (t ∷ ts) w = some-none o (flit t ts w) e (flit-is t ts w)
 
     pub let-some : (f : Flit) → o ≡ Some f → (q u : Queue Event) (after : List (Option Flit)) (y : ℕ) → after ≡ set places (place-of p) (Some f) → y ≡ i .cycles →
-        u ≡ put q (record { cycle = y; kind = In; ticket = f .ticket; number = f .number; node = n; entered = f .entered }) → Let F P s n l j q u after
+        u ≡ put q (event-of y In f n) → Let F P s n l j q u after
     let-some f e q u after y pa yc uq = go (waiting T n (s .log)) refl
       where
         go : (xs : List ℕ) → waiting T n (s .log) ≡ xs → Let F P s n l j q u after

@@ -23,7 +23,7 @@ use Rattle.calls.specs.declared.ticket.Ticket.{Ticket}
 use Rattle.calls.specs.declared.waits.Waits.{Waits}
 use Rattle.calls.specs.declared.tables.Tables.{Tables}
 use Rattle.network.specs.Log.{Log, size, sent, received}
-use Rattle.network.specs.Log.Happening.{entered, off}
+use Rattle.network.specs.Log.Happening.{off}
 use Rattle.network.specs.Cycle.{Fabric, State, golden-in, off-at, in-slot-order}
 use Rattle.bounds.specs.declared.settings.Settings.{Settings}
 use Rattle.bounds.specs.SetUp.{all-tickets}
@@ -31,6 +31,7 @@ use Rattle.network.specs.Computed.{due, best, same-port, without, taken, left}
 use Rattle.line.specs.Queues.{Queue, put}
 use Rattle.network.specs.Runs.{put-all, told, count-off}
 use Rattle.network.proofs.Invariant.{Inv, Sits, Opened}
+use Rattle.calls.specs.Telling.{event-of}
 use Rattle.calls.specs.Records.{no-ticket, Keeps, Receives, Takes-in}
 use Rattle.calls.specs.Follow.{slot-of, Recorded, Records, Queued}
 use Rattle.calls.specs.Midway.{Between, Took}
@@ -135,7 +136,7 @@ module _ (F : Fabric) (i : Tables) (s : State) (l : Log) (n g : ℕ) (law : Lawf
 
     pub took-some : (j : Tables) (q r : Queue Event) (places : List (Option Flit)) (y : ℕ) → Takes-in i j f →
         places ≡ set (in-slot-order (slot-of (i .slots) n)) (place-of p) None →
-        y ≡ i .cycles → r ≡ put q (record { cycle = y; kind = Out; ticket = f .ticket; number = f .number; node = n; entered = f .entered }) → Took F P s n l j q r places 1
+        y ≡ i .cycles → r ≡ put q (event-of y Out f n) → Took F P s n l j q r places 1
     unfolding left
     took-some j q r places y t pl ev li =
         record {
@@ -147,7 +148,7 @@ module _ (F : Fabric) (i : Tables) (s : State) (l : Log) (n g : ℕ) (law : Lawf
               (subst (λ (xs : List Waits). Queued (F .plan .nodes) (P .tickets) xs l) (sym (t .waits)) (b .queued)));
           gives = pl ∙ ap (λ xs. set xs (place-of p) None) same-places ∙ set-ordered (s .slot n) p None ∙ ap (λ (o : Option (Port × Flit)). in-slot-order (without o (s .slot n))) (sym e);
           line =
-              li ∙ ap (λ c. put q (record { cycle = c; kind = Out; ticket = f .ticket; number = f .number; node = n; entered = f .entered })) (ev ∙ b .cycles)
+              li ∙ ap (λ c. put q (event-of c Out f n)) (ev ∙ b .cycles)
               ∙ ap (λ (o : Option (Port × Flit)). put-all q (told (off-at (s .cycles) n o))) (sym e);
           count = ap (λ (o : Option (Port × Flit)). count-off (off-at (s .cycles) n o)) (sym e);
         }

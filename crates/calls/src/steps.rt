@@ -90,7 +90,11 @@ pub(crate) fn gap(places: [Option<Flit>; 4]) -> Option<Port>
 }
 
 // The places with one of them changed.
-pub(crate) fn with(places: [Option<Flit>; 4], at_port: Port, held: Option<Flit>) -> [Option<Flit>; 4]
+pub(crate) fn with(
+    places: [Option<Flit>; 4],
+    at_port: Port,
+    held: Option<Flit>,
+) -> [Option<Flit>; 4]
     ensures { λ r. ⌜ r ≡ set places (place-of «at_port») held ⌝ }
 {
     let mut changed = places;
@@ -107,7 +111,11 @@ fn wish<L: Layout>(layout: &L, node: usize, place: Option<Flit>) -> Option<Port>
     }
 }
 
-pub(crate) fn wishes<L: Layout>(layout: &L, node: usize, places: [Option<Flit>; 4]) -> [Option<Port>; 4]
+pub(crate) fn wishes<L: Layout>(
+    layout: &L,
+    node: usize,
+    places: [Option<Flit>; 4],
+) -> [Option<Port>; 4]
     ensures { λ r. ⌜ r ≡ in-slot-order (λ p. wished (plan (now (layout .entry))) node (at places p)) ⌝ }
 {
     [

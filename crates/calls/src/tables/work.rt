@@ -4,8 +4,6 @@ ghost use mathlib.Core.Path.{_≡_};
 ghost use denote.Ref.{name};
 ghost use Rattle.line.specs.Lines.{queue-of};
 ghost use Rattle.calls.specs.Midway.{Takes-off, Enters};
-use network::event::Event;
-use network::event::Kind;
 use super::super::steps::best;
 use super::super::steps::gap;
 use super::super::steps::with;
@@ -13,6 +11,8 @@ use super::super::telling::tell;
 use super::Tables;
 use fabric::parts::Flit;
 use line::Line;
+use network::event::Event;
+use network::event::Kind;
 
 impl Tables {
     // Takes off a flit that is due here, if there is one. Answers the other places, and how many were taken off.
@@ -31,15 +31,7 @@ impl Tables {
             None => (places, 0),
             Some((port, flit)) => {
                 self.take_in(flit);
-                let event = Event {
-                    cycle: self.cycles,
-                    kind: Kind::Out,
-                    ticket: flit.ticket,
-                    number: flit.number,
-                    node: node as u8,
-                    entered: flit.entered,
-                };
-                tell(line, event);
+                tell(line, self.cycles, Kind::Out, flit, node);
                 (with(places, port, None), 1)
             }
         }
@@ -62,15 +54,7 @@ impl Tables {
         let Some(flit) = self.let_in(node) else {
             return places;
         };
-        let event = Event {
-            cycle: self.cycles,
-            kind: Kind::In,
-            ticket: flit.ticket,
-            number: flit.number,
-            node: node as u8,
-            entered: flit.entered,
-        };
-        tell(line, event);
+        tell(line, self.cycles, Kind::In, flit, node);
         with(places, port, Some(flit))
     }
 }

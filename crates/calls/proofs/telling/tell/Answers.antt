@@ -5,4 +5,4 @@ use Rattle.calls.proofs.telling.tell.Needs as need
 pub returns : need.returns
 returns c =
     let e = c .put .ensures in
-    record { put = put-free (queue-of (c .args .line .now)) (queue-of (c .put .last .self)) (c .args .event) (e .queue); lender = e .lender }
+    record { put = put-free (queue-of (c .args .line .now)) (queue-of (c .put .last .self)) _ (e .queue); lender = e .lender }
