@@ -1,0 +1,2 @@
+// How a caller has the promise of a network for its own run.
+mod loops;
