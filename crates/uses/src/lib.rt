@@ -1,2 +1,0 @@
-// How a caller has the promise of a network for its own run.
-mod loops;
