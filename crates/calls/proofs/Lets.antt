@@ -34,8 +34,8 @@ use Rattle.calls.specs.Follow.{Recorded, Lined, Records, Queued}
 use Rattle.calls.specs.Midway.{Between, Own, Let}
 use Rattle.network.proofs.Places.{some-none, some-same}
 use Rattle.calls.proofs.Setting.{ticket-below}
-use Rattle.calls.proofs.Offers.{like}
-use Rattle.calls.proofs.Takes.{at-ordered, set-ordered, between, change}
+use Rattle.calls.proofs.Showing.{like, change}
+use Rattle.calls.proofs.Takes.{at-ordered, set-ordered, between}
 
 module _ (F : Fabric) (i : Tables) (s : State) (l : Log) (n : ℕ) (law : Lawful (F .plan)) (inv : Inv F (i .settings) s 0) (h : n < F .plan .nodes)
     (own : Own (i .settings) s n l) (b : Between F s l i) (places : List (Option Flit)) (pl : places ≡ in-slot-order (left F (i .settings) s n)) where

@@ -32,6 +32,7 @@ use Rattle.network.specs.Runs.Call.{cycle}
 use Rattle.network.specs.Runs.Outcome.{cycling}
 use Rattle.fabric.specs.Verdicts.Verdict.{granted, refused}
 use Rattle.network.proofs.Invariant.{Inv}
+use Rattle.calls.specs.Records.{Advances}
 use Rattle.calls.specs.Steps.{far-place}
 use Rattle.calls.specs.Follow.{slot-of, Records, Queued, Shows}
 use Rattle.calls.proofs.Promising.{Works}
@@ -118,9 +119,9 @@ module _ (F : Fabric) (i : Tables) where
 
       pub cycles-on : 2 * F .plan .nodes ≤ length (q .memory) - q .held → q .held ≤ length (q .memory) → (j k : Tables) (g : ℕ) (arrived : List (Option Flit)) (r : Queue Event) (off n : ℕ) →
           g ≡ golden-in F P (i .cycles) → n ≡ F .plan .nodes → Round F i j n g arrived q r off →
-          k .settings ≡ j .settings → k .cycles ≡ j .cycles + 1 → k .register ≡ j .register → k .slots ≡ arrived → k .tickets ≡ j .tickets → k .waits ≡ j .waits →
+          Advances j k arrived →
           Works F i k (cycle q) (cycling (granted off) r)
-      cycles-on room fits j k g arrived r off n gold all R se cy re sl ti wa =
+      cycles-on room fits j k g arrived r off n gold all R a =
           record {
             does = λ s ok inv sh.
                 let N = F .plan .nodes in
@@ -129,14 +130,14 @@ module _ (F : Fabric) (i : Tables) where
                 let gold-s : g ≡ golden-in F P (s .cycles) = gold ∙ ap (golden-in F P) (sh .cycles) in
                 let m : Midway F P s N j arrived q r off = subst (λ (x : ℕ). Midway F P s x j arrived q r off) all (R .midway s inv gold-s (omega arith) sh) in
                 let b = m .shows in
-                let e : k .settings ≡ P = se ∙ R .same in
+                let e : k .settings ≡ P = a .settings ∙ R .same in
                 let turns : s .cycles * N + N ≡ (s .cycles + 1) * N = sym (add-mul (s .cycles) 1 N ∙ ap (λ x. s .cycles * N + x) (one-mul N)) in
                 let shows : Shows F k (cycled F P s) = record {
-                  cycles = cy ∙ ap (λ x. x + 1) (b .cycles);
-                  drawn = re ∙ m .drawn ∙ ap (register (P .seed)) turns ∙ ap (λ (Q : Settings). register (Q .seed) ((s .cycles + 1) * N)) (sym e);
-                  slots = λ x p h. ap (λ xs. slot-of xs x p) sl ∙ all-arrived law s arrived (λ y t l. m .sent y t l) x p h;
-                  records = subst₂ (λ (Q : Settings) (ts : List Ticket). Records (all-tickets (F .plan) Q) ts (done F P s N ++ s .log)) (sym se) (sym ti) (b .records);
-                  queued = subst₂ (λ (Q : Settings) (ws : List Waits). Queued N (Q .tickets) ws (done F P s N ++ s .log)) (sym se) (sym wa) (b .queued);
+                  cycles = a .cycles ∙ ap (λ x. x + 1) (b .cycles);
+                  drawn = a .register ∙ m .drawn ∙ ap (register (P .seed)) turns ∙ ap (λ (Q : Settings). register (Q .seed) ((s .cycles + 1) * N)) (sym e);
+                  slots = λ x p h. ap (λ xs. slot-of xs x p) (a .slots) ∙ all-arrived law s arrived (λ y t l. m .sent y t l) x p h;
+                  records = subst₂ (λ (Q : Settings) (ts : List Ticket). Records (all-tickets (F .plan) Q) ts (done F P s N ++ s .log)) (sym (a .settings)) (sym (a .tickets)) (b .records);
+                  queued = subst₂ (λ (Q : Settings) (ws : List Waits). Queued N (Q .tickets) ws (done F P s N ++ s .log)) (sym (a .settings)) (sym (a .waits)) (b .queued);
                 } in
                 record {
                   exact =

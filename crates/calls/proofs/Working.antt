@@ -30,6 +30,7 @@ use Rattle.network.specs.Computed.{taken, left, entering, ready, handing, done}
 use Rattle.line.specs.Queues.{Queue}
 use Rattle.network.specs.Runs.{put-all, told, count-off}
 use Rattle.network.proofs.Invariant.{Inv}
+use Rattle.calls.specs.Records.{Draws}
 use Rattle.calls.specs.Steps.{wished, far-place, Spread}
 use Rattle.calls.specs.Follow.{slot-of, Records, Queued}
 use Rattle.calls.specs.Midway.{Between, Took, Takes-off, Own, Let, Enters, Node-works}
@@ -57,15 +58,14 @@ same-wish : (F : Fabric) (n : ℕ) (o : Option Flit) → wished (F .plan) n o �
 same-wish F n None = refl
 same-wish F n (Some f) = refl
 
--- the tables after a change of nothing that a state shows
-between-same : (F : Fabric) (s : State) (l : Log) (i j : Tables) → j .settings ≡ i .settings → j .cycles ≡ i .cycles → j .slots ≡ i .slots → j .tickets ≡ i .tickets →
-    j .waits ≡ i .waits → Between F s l i → Between F s l j
-between-same F s l i j se cy sl ti wa b =
+-- the tables after a draw
+between-same : (F : Fabric) (s : State) (l : Log) (i j : Tables) {ds : List Bool} → Draws i j ds → Between F s l i → Between F s l j
+between-same F s l i j d b =
     record {
-      cycles = cy ∙ b .cycles;
-      slots = λ n p h. ap (λ xs. slot-of xs n p) sl ∙ b .slots n p h;
-      records = subst₂ (λ (P : Settings) (ts : List Ticket). Records (all-tickets (F .plan) P) ts l) (sym se) (sym ti) (b .records);
-      queued = subst₂ (λ (P : Settings) (ws : List Waits). Queued (F .plan .nodes) (P .tickets) ws l) (sym se) (sym wa) (b .queued);
+      cycles = d .cycles ∙ b .cycles;
+      slots = λ n p h. ap (λ xs. slot-of xs n p) (d .slots) ∙ b .slots n p h;
+      records = subst₂ (λ (P : Settings) (ts : List Ticket). Records (all-tickets (F .plan) P) ts l) (sym (d .settings)) (sym (d .tickets)) (b .records);
+      queued = subst₂ (λ (P : Settings) (ws : List Waits). Queued (F .plan .nodes) (P .tickets) ws l) (sym (d .settings)) (sym (d .waits)) (b .queued);
     }
 
 module _ (F : Fabric) (P : Settings) (s : State) where
@@ -140,8 +140,7 @@ module _ (F : Fabric) (P : Settings) (s : State) where
 module _ (F : Fabric) (law : Lawful (F .plan)) (i i₁ i₂ i₃ : Tables) (n g : ℕ) (hn : n < F .plan .nodes) (before after : List (Option Flit)) (u u₁ u₂ : Queue Event) (off : ℕ)
     (left-places places leaving : List (Option Flit)) (wishes : List (Option Port)) (ds : List Bool)
     (takes : Takes-off i i₁ n g u u₁ left-places off) (enters : Enters i₁ i₂ n u₁ u₂ left-places places)
-    (reg : i₃ .register ≡ shifted (i₂ .register)) (bits : ds ≡ draw-bits (i₃ .register))
-    (se : i₃ .settings ≡ i₂ .settings) (cy : i₃ .cycles ≡ i₂ .cycles) (sl : i₃ .slots ≡ i₂ .slots) (ti : i₃ .tickets ≡ i₂ .tickets) (wa : i₃ .waits ≡ i₂ .waits)
+    (drew : Draws i₂ i₃ ds)
     (wish : wishes ≡ in-slot-order (λ p. wished (F .plan) n (at places p)))
     (route : leaving ≡ turned (F .turn (record { places = places; wishes = wishes; golden = g; draws = ds })) places)
     (spread : Spread (F .plan) n leaving before after) where
@@ -157,8 +156,8 @@ module _ (F : Fabric) (law : Lawful (F .plan)) (i i₁ i₂ i₃ : Tables) (n g 
   pub node-works : Node-works F i i₃ n g before after u u₂ off
   node-works =
       record {
-        same = se ∙ same-2;
-        cycles = cy ∙ enters .keeps .cycles ∙ takes .keeps .cycles;
+        same = drew .settings ∙ same-2;
+        cycles = drew .cycles ∙ enters .keeps .cycles ∙ takes .keeps .cycles;
         few = takes .few;
         works = λ s q count inv gold room m.
             let took : Took F P s n (grown F P s n) i₁ u u₁ left-places off = takes .took F s (grown F P s n) law inv hn gold (m .shows) (omega arith) in
@@ -173,10 +172,10 @@ module _ (F : Fabric) (law : Lawful (F .plan)) (i i₁ i₂ i₃ : Tables) (n g 
             (subst (λ (Q : Settings). Own Q s n (half-log F P s n)) (sym same-1) (own-log F P s inv n)) (took .shows)
             (subst (λ (Q : Settings). left-places ≡ in-slot-order (left F Q s n)) (sym same-1) (took .gives)) room-1) in
             let drawn : i₃ .register ≡ register (P .seed) (suc (s .cycles * F .plan .nodes + n)) =
-            reg ∙ ap shifted (enters .keeps .register ∙ takes .keeps .register ∙ m .drawn) in
+            drew .register ∙ ap shifted (enters .keeps .register ∙ takes .keeps .register ∙ m .drawn) in
             let e1 : suc (s .cycles * F .plan .nodes + n) ≡ s .cycles * F .plan .nodes + n + 1 = omega arith in
             let e2 : suc (s .cycles * F .plan .nodes + n) ≡ s .cycles * F .plan .nodes + (n + 1) = omega arith in
-            let handed-is = handed F P s n g (i₃ .register) places wishes ds gold (let-in .gives) wish (drawn ∙ ap (register (P .seed)) e1) bits in
+            let handed-is = handed F P s n g (i₃ .register) places wishes ds gold (let-in .gives) wish (drawn ∙ ap (register (P .seed)) e1) (drew .bits) in
             let leaves : leaving ≡ turned (F .turn (handing F P s n)) (handing F P s n .places) =
             route ∙ ap (λ (h : Handing). turned (F .turn h) (h .places)) handed-is in
             let log-is : entered-at n (entering F P s n) ++ half-log F P s n ≡ grown F P s (n + 1) = sym (ap (grown F P s) (add-one n) ∙ grown-more F P s n) in
@@ -191,8 +190,8 @@ module _ (F : Fabric) (law : Lawful (F .plan)) (i i₁ i₂ i₃ : Tables) (n g 
                   spread .rest (far-place (F .plan) k p) (λ r z. d (far-same (F .plan) law k n p r (let y : k < F .plan .nodes = omega arith in y) hn z .0)) ∙ m .sent k p lt
             ] in
             record {
-              settings = se ∙ same-2;
-              shows = between-same F s (done F P s (n + 1) ++ s .log) i₂ i₃ se cy sl ti wa (subst (λ (l : Log). Between F s l i₂) log-is (let-in .shows));
+              settings = drew .settings ∙ same-2;
+              shows = between-same F s (done F P s (n + 1) ++ s .log) i₂ i₃ drew (subst (λ (l : Log). Between F s l i₂) log-is (let-in .shows));
               drawn = drawn ∙ ap (register (P .seed)) e2;
               sent = λ k p h. sent-now k p h (cases-eq k n);
               line =

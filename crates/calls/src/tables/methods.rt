@@ -4,9 +4,8 @@ ghost use mathlib.Core.Path.{_≡_};
 ghost use lib.ListN.{length};
 ghost use Rattle.std.specs.declared.option.Option.the-variants.{None};
 ghost use Rattle.calls.specs.Fits.{Fits};
-ghost use Rattle.calls.specs.Records.{Starts, Accepts, Frees, Takes-in, Lets-in, Advances};
+ghost use Rattle.calls.specs.Records.{Starts, Accepts, Frees, Takes-in, Lets-in, Draws, Advances};
 ghost use Rattle.network.specs.Cycle.{in-slot-order};
-ghost use Rattle.clock.specs.Draws.{shifted, draw-bits};
 ghost use Rattle.clock.specs.Epochs.{golden-ticket};
 ghost use Rattle.calls.specs.Follow.{slot-of};
 use super::super::ticket::BLANK;
@@ -89,9 +88,7 @@ impl Tables {
 
     // The four draw bits of a node.
     pub(crate) fn draw(&mut self) -> [bool; 4]
-        ensures register { λ _. ⌜ now (self .exit) .register ≡ shifted (now (self .entry) .register) ⌝ }
-        ensures bits { λ r. ⌜ r ≡ draw-bits (now (self .exit) .register) ⌝ }
-        ensures rest { λ _. ⌜ now (self .exit) .settings ≡ now (self .entry) .settings ⌝ ∗ ⌜ now (self .exit) .cycles ≡ now (self .entry) .cycles ⌝ ∗ ⌜ now (self .exit) .slots ≡ now (self .entry) .slots ⌝ ∗ ⌜ now (self .exit) .tickets ≡ now (self .entry) .tickets ⌝ ∗ ⌜ now (self .exit) .waits ≡ now (self .entry) .waits ⌝ }
+        ensures { λ r. ⌜ Draws (now (self .entry)) (now (self .exit)) r ⌝ }
     {
         let r = shift(self.register);
         self.register = r;
