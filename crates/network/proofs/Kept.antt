@@ -29,6 +29,7 @@ use Rattle.network.proofs.Running.{peel, invariant}
 use Rattle.network.proofs.Delivery.{delivered}
 use Rattle.network.proofs.Alikes.{Tied}
 use Rattle.network.proofs.Undisturbed.{Grew, grew, follow}
+use Rattle.network.proofs.Seen.{seen}
 use Rattle.network.proofs.Solving.{answered, clear-after, led, led-one, all-told}
 
 -- what set-up has seen to
@@ -131,5 +132,6 @@ module _ (F : Fabric) (P : Settings) (law : Lawful (F .plan)) (sw : Lawful-switc
     leads = led F P law run;
     only = λ s l. led-one F P law l;
     kept = λ s l. subst (Kept F P run) (sym (led-one F P law l)) kept-after;
+    seen = λ s l q q′ k r v. seen F P v;
     answered = λ s l. subst (λ (x : State). (k : Call) → Answered F P x k) (sym (led-one F P law l)) (answered F P law (after F P run) (clear-after F P law run));
   }

@@ -10,6 +10,7 @@ use Rattle.fabric.specs.declared.parts.Port.{Port}
 use Rattle.fabric.specs.Layouts.{Plan, Exists, Lawful}
 use Rattle.fabric.specs.Verdicts.Verdict.{granted}
 use Rattle.switch.specs.Switches.{Lawful-switch}
+use Rattle.line.specs.Queues.{Queue, Sound, contents}
 use Rattle.bounds.specs.declared.settings.Settings.{Settings}
 use Rattle.bounds.specs.SetUp.{all-tickets, set-up-verdict}
 use Rattle.bounds.specs.Lateness.{latest}
@@ -18,6 +19,8 @@ use Rattle.network.specs.Log.{Happening, Log, Packet, packet}
 use Rattle.network.specs.Log.Happening.{offered, entered, off, collected}
 use Rattle.network.specs.Cycle.{Fabric, State, golden-in, happened}
 use Rattle.network.specs.Runs.{Call, Outcome, Serves, Leads, told}
+use Rattle.network.specs.Runs.Call.{cycle}
+use Rattle.network.specs.Runs.Outcome.{cycling}
 use Rattle.network.specs.Runs.Serves.{offer-granted, offer-refused, cycle-granted, cycle-refused, collect-granted, collect-refused, looks}
 use Rattle.network.specs.Runs.Leads.{set-up, one-more}
 
@@ -72,7 +75,7 @@ pub record Offered-last (t : ℕ) (p : Packet) (l : Log) : Type 0 where
   pub no-offer : (q : Packet) → Stands (offered t q) (there .newer) → ⊥
   pub no-collection : (r : ℕ) (ws : List ℕ) → Stands (collected t r ws) (there .newer) → ⊥
 
--- the events that a call puts into the caller's line
+-- the events that a call puts into the caller's line, the oldest first
 abbrev pub puts : {F : Fabric} {P : Settings} {s : State} {k : Call} {o : Outcome} {r : State} → Serves F P s k o r → List Event
 puts (offer-granted v) = []
 puts (offer-refused v) = []
@@ -82,7 +85,7 @@ puts (collect-granted v) = []
 puts (collect-refused v) = []
 puts looks = []
 
--- and those of a run, the oldest first
+-- and those of a run
 abbrev pub story : {F : Fabric} {P : Settings} {run : List Call} {s : State} → Leads F P run s → List Event
 story set-up = []
 story (one-more l v) = story l ++ puts v
@@ -164,6 +167,9 @@ pub record Promised (F : Fabric) (P : Settings) (run : List Call) : Type 0 where
   pub leads : Leads F P run state
   pub only : (s : State) → Leads F P run s → s ≡ state
   pub kept : (s : State) → Leads F P run s → Kept F P run s
+  -- where a cycle is granted, its events come into the caller's line after what the line held
+  pub seen : (s : State) → Leads F P run s → (q q′ : Queue Event) (k : ℕ) (r : State) (v : Serves F P s (cycle q) (cycling (granted k) q′) r) →
+      Sound q → contents q′ ≡ contents q ++ puts v
   pub answered : (s : State) → Leads F P run s → (k : Call) → Answered F P s k
 
 -- of every layout and every switch that keep their laws, every settings that set-up accepts, and every run of calls

@@ -43,12 +43,18 @@ port-of (ℕ.suc ℕ.zero) = E
 port-of (ℕ.suc (ℕ.suc ℕ.zero)) = S
 port-of (ℕ.suc (ℕ.suc (ℕ.suc k))) = W
 
+abbrev pub event-in : Flit → ℕ → Event
+event-in f n = record { cycle = f .entered; kind = In; ticket = f .ticket; number = f .number; node = n; entered = f .entered }
+
+abbrev pub event-out : Flit → ℕ → ℕ → Event
+event-out f n c = record { cycle = c; kind = Out; ticket = f .ticket; number = f .number; node = n; entered = f .entered }
+
 -- what entered and what was taken off, as events, the oldest first
 abbrev pub told : Log → List Event
 told [] = []
 told (offered t p ∷ l) = told l
-told (entered f n ∷ l) = told l ++ (record { cycle = f .entered; kind = In; ticket = f .ticket; number = f .number; node = n; entered = f .entered } ∷ [])
-told (off f n c ∷ l) = told l ++ (record { cycle = c; kind = Out; ticket = f .ticket; number = f .number; node = n; entered = f .entered } ∷ [])
+told (entered f n ∷ l) = told l ++ (event-in f n ∷ [])
+told (off f n c ∷ l) = told l ++ (event-out f n c ∷ [])
 told (collected t r ws ∷ l) = told l
 
 -- how many flits were taken off
