@@ -10,7 +10,6 @@ use fabric::parts::Flit;
 use fabric::parts::Port;
 
 #[derive(Clone, Copy, Debug)]
-#[derive(Clone, Copy, Debug)]
 pub struct Bless;
 
 // Whether one flit goes before another, if both are ordinary.

@@ -9,7 +9,6 @@ use fabric::parts::Flit;
 use fabric::parts::Port;
 
 #[derive(Clone, Copy, Debug)]
-#[derive(Clone, Copy, Debug)]
 pub struct Chipper;
 
 // What a wire between blocks carries: a place, with the rank of its flit and the wish.
