@@ -5,3 +5,5 @@ mod tables;
 mod telling;
 mod ticket;
 mod waits;
+
+pub use calls::Network;
