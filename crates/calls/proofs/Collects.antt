@@ -68,7 +68,7 @@ module _ (F : Fabric) (i : Tables) (r n o : ℕ) (memory : List ℕ) where
   refuses : (k : ℕ) → ((s : State) → Shows F i s → collect-verdict F P s r n o memory ≡ refused k []) → Works F i i (collect r n o memory) (collecting (refused k []) memory)
   refuses k h =
       record {
-        does = λ s ok inv sh.
+        does = λ s led sh.
             let e = h s sh in
             record {
               exact = ap (λ (v : Verdict ℕ). collecting v (decided v (over (gathered t (size (packet t (s .log))) (s .log)) memory) memory)) (sym e);
@@ -142,7 +142,7 @@ module _ (F : Fabric) (i : Tables) (r n o : ℕ) (memory : List ℕ) where
             Works F i j (collect r n o memory) (collecting (granted (its .size)) after)
         exactly after w =
             record {
-              does = λ s ok inv sh.
+              does = λ s led sh.
                   let e = verdict s sh in
                   let h = sh .records t own in
                   let ws = gathered t (size (packet t (s .log))) (s .log) in

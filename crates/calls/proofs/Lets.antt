@@ -31,16 +31,19 @@ use Rattle.network.proofs.Invariant.{Inv, Opened, Each, Waits as Waiting}
 use Rattle.calls.specs.Telling.{event-of}
 use Rattle.calls.specs.Records.{no-ticket, no-waits, line-of, Keeps, Lets-go, Lets-in}
 use Rattle.calls.specs.Follow.{Recorded, Lined, Records, Queued}
-use Rattle.calls.specs.Midway.{Between, Own, Let}
+use Rattle.calls.specs.Midway.{Reached, Between, Own, Let}
 use Rattle.network.proofs.Places.{some-none, some-same}
 use Rattle.calls.proofs.Setting.{ticket-below}
-use Rattle.calls.proofs.Showing.{like, change}
+use Rattle.calls.proofs.Showing.{like, change, invariant}
 use Rattle.calls.proofs.Takes.{at-ordered, set-ordered, between}
 
-module _ (F : Fabric) (i : Tables) (s : State) (l : Log) (n : ℕ) (law : Lawful (F .plan)) (inv : Inv F (i .settings) s 0) (h : n < F .plan .nodes)
+module _ (F : Fabric) (i : Tables) (s : State) (l : Log) (n : ℕ) (law : Lawful (F .plan)) (led : Reached F (i .settings) s) (h : n < F .plan .nodes)
     (own : Own (i .settings) s n l) (b : Between F s l i) (places : List (Option Flit)) (pl : places ≡ in-slot-order (left F (i .settings) s n)) where
   abbrev P : Settings
   P = i .settings
+
+  inv : Inv F P s 0
+  inv = invariant F P law s led
 
   abbrev T : ℕ
   T = i .settings .tickets

@@ -27,7 +27,7 @@ place-of-port (ℕ.suc (ℕ.suc (ℕ.suc (ℕ.suc k)))) h = absurd (omega arith)
 
 module _ (F : Fabric) (i : Tables) (n k : ℕ) where
   looked : (v : Verdict _) → ((s : State) → Shows F i s → v ≡ look-verdict F (i .settings) s n k) → Works F i i (look n k) (looking v)
-  looked v h = record { does = λ s ok inv sh. record { exact = ap looking (h s sh); same = refl; shows = sh } }
+  looked v h = record { does = λ s led sh. record { exact = ap looking (h s sh); same = refl; shows = sh } }
 
   pub no-look : (F .plan .nodes ≤ n) ⊎ (4 ≤ k) → Works F i i (look n k) (looking (refused 4 []))
   no-look (inl h) = looked _ (λ s sh. sym (cond-true _ _ _ (or-left _ _ (le-leb (F .plan .nodes) n h))))

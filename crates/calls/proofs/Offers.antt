@@ -31,7 +31,7 @@ use Rattle.network.proofs.Invariant.{Each, Distinct, each-map, Waits as Waiting
 use Rattle.calls.specs.Records.{no-ticket, no-waits, Accepts}
 use Rattle.calls.specs.Follow.{Shows, Recorded, Records, Lined}
 use Rattle.calls.proofs.Promising.{Works}
-use Rattle.calls.proofs.Showing.{like, change, logged}
+use Rattle.calls.proofs.Showing.{like, change, invariant, logged}
 use Rattle.calls.proofs.Pigeons.{few}
 use Rattle.calls.proofs.Setting.{ticket-below}
 
@@ -65,7 +65,7 @@ module _ (F : Fabric) (i : Tables) (n o d : ℕ) (ws : List ℕ) where
   refuses : (k : ℕ) → ((s : State) → Shows F i s → offer-verdict F P s n o d ws ≡ refused k []) → Works F i i (offer n o d ws) (offering (refused k []))
   refuses k h =
       record {
-        does = λ s ok inv sh.
+        does = λ s led sh.
             let e = h s sh in
             record {
               exact = ap offering (sym e);
@@ -179,10 +179,10 @@ module _ (F : Fabric) (i : Tables) (n o d : ℕ) (ws : List ℕ) where
           pub grants : Works F i j (offer n o d ws) (offering (granted tt))
           grants =
               record {
-                does = λ s ok inv sh.
+                does = λ s led sh.
                     let e = verdict s sh in
                     let then = with-log F P s (offered t p) in
-                    let shows : Shows F j then = logged F i j s (offered t p) (a .keeps) sh (records s sh) (queued s inv sh) in
+                    let shows : Shows F j then = logged F i j s (offered t p) (a .keeps) sh (records s sh) (queued s (invariant F P law s led) sh) in
                     record {
                       exact = ap offering (sym e);
                       same = a .keeps .settings;

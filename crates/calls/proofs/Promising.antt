@@ -1,5 +1,5 @@
 -- What a call does from any state, it promises of every run.
-use mathlib.Core.Path.{_≡_, refl, sym, ap₂, subst, _∙_}
+use mathlib.Core.Path.{_≡_, refl, sym, ap₂, subst, subst₂, _∙_}
 use mathlib.Core.List.{List, [], _∷_}
 use Rattle.fabric.specs.Layouts.{Lawful}
 use Rattle.fabric.specs.Verdicts.Verdict.{granted}
@@ -11,12 +11,11 @@ use Rattle.network.specs.Runs.{Call, Outcome, Serves, Leads, fresh}
 use Rattle.network.specs.Runs.Leads.{set-up as led-none, one-more as led-more}
 use Rattle.network.specs.Promises.{Kept, Answered}
 use Rattle.network.specs.Computed.{next, outcome, after}
-use Rattle.network.proofs.Invariant.{Inv}
-use Rattle.network.proofs.Running.{invariant}
-use Rattle.network.proofs.Solving.{served, clear-after, led-one}
+use Rattle.network.proofs.Solving.{served-one, answered, clear-after, led-one}
 use Rattle.network.proofs.Kept.{kept}
 use Rattle.calls.specs.declared.tables.Tables.{Tables}
 use Rattle.calls.specs.Follow.{Shows, Follows, Continues, Refused, Promised, Served, Answers, Kept-throughout, Whole}
+use Rattle.calls.specs.Midway.{Reached}
 use Rattle.calls.specs.Follow.Served.{begun, one-more as served-more}
 use Rattle.calls.specs.Follow.Answers.{set-up as no-call, one-more as a-call}
 
@@ -26,11 +25,17 @@ pub record Does (F : Fabric) (i j : Tables) (s : State) (k : Call) (o : Outcome)
   pub same : j .settings ≡ i .settings
   pub shows : Shows F j (next F (i .settings) s k)
 
--- and from every such state to which a network can come
+-- and from every such state to which a run leads
 pub record Works (F : Fabric) (i j : Tables) (k : Call) (o : Outcome) : Type 0 where
-  pub does : (s : State) → set-up-verdict (F .plan) (i .settings) ≡ granted tt → Inv F (i .settings) s 0 → Shows F i s → Does F i j s k o
+  pub does : (s : State) → Reached F (i .settings) s → Shows F i s → Does F i j s k o
 
 module _ (F : Fabric) (law : Lawful (F .plan)) (sw : Lawful-switch (F .turn)) where
+  computed : (P : Settings) (run : List Call) (k : Call) → Serves F P (after F P run) k (outcome F P (after F P run) k) (next F P (after F P run) k)
+  computed P run k =
+      let a : Answered F P (after F P run) k = answered F P law (after F P run) (clear-after F P law run) k in
+      let e = served-one F P law (after F P run) (clear-after F P law run) (a .served) in
+      subst₂ (λ (o : Outcome) (r : State). Serves F P (after F P run) k o r) (e .0) (e .1) (a .served)
+
   pub promised : (i j : Tables) (k : Call) (o : Outcome) → Works F i j k o → (Refused o → j ≡ i) → Promised F i j k o
   promised i j k o w u = record { continues = go; unchanged = u }
     where
@@ -38,10 +43,10 @@ module _ (F : Fabric) (law : Lawful (F .plan)) (sw : Lawful-switch (F .turn)) wh
       go run s f =
           let P : Settings = i .settings in
           let at : s ≡ after F P run = led-one F P law (f .leads) in
-          let d : Does F i j s k o = w .does s (f .lawful) (subst (λ (x : State). Inv F P x 0) (sym at) (invariant F P law run)) (f .shows) in
+          let d : Does F i j s k o = w .does s (run, f .leads) (f .shows) in
           let v : Serves F P s k o (next F P s k) =
           subst (λ (x : Outcome). Serves F P s k x (next F P s k)) (sym (d .exact))
-          (subst (λ (x : State). Serves F P x k (outcome F P x k) (next F P x k)) (sym at) (served F P law (after F P run) (clear-after F P law run) k)) in
+          (subst (λ (x : State). Serves F P x k (outcome F P x k) (next F P x k)) (sym at) (computed P run k)) in
           let led : Leads F P (k ∷ run) (next F P s k) = led-more (f .leads) v in
           record {
             state = next F P s k;

@@ -31,12 +31,11 @@ use Rattle.fabric.specs.Verdicts.{Verdict, granting}
 use Rattle.network.specs.Runs.Call.{cycle}
 use Rattle.network.specs.Runs.Outcome.{cycling}
 use Rattle.fabric.specs.Verdicts.Verdict.{granted, refused}
-use Rattle.network.proofs.Invariant.{Inv}
 use Rattle.calls.specs.Records.{Advances}
 use Rattle.calls.specs.Steps.{far-place}
 use Rattle.calls.specs.Follow.{slot-of, Records, Queued, Shows}
 use Rattle.calls.proofs.Promising.{Works}
-use Rattle.calls.specs.Midway.{Midway, Node-works, Round}
+use Rattle.calls.specs.Midway.{Reached, Midway, Node-works, Round}
 use Rattle.calls.proofs.Putting.{put-length}
 use Rattle.fabric.proofs.Following.{far-exists}
 use Rattle.calls.proofs.Working.{told-few}
@@ -59,7 +58,7 @@ module _ (F : Fabric) (i : Tables) where
       }
 
   pub round-none : (g : ℕ) (arrived : List (Option Flit)) (q : Queue Event) → Round F i i 0 g arrived q q 0
-  round-none g arrived q = record { same = refl; cycles = refl; few = omega arith; midway = λ s inv gold room sh. midway-none s arrived q sh }
+  round-none g arrived q = record { same = refl; cycles = refl; few = omega arith; midway = λ s led gold room sh. midway-none s arrived q sh }
 
   -- one node more
   pub round-more : (j k : Tables) (n g : ℕ) (arrived then : List (Option Flit)) (q r u : Queue Event) (off more : ℕ) → n < F .plan .nodes →
@@ -69,8 +68,8 @@ module _ (F : Fabric) (i : Tables) where
         same = w .same ∙ R .same;
         cycles = w .cycles ∙ R .cycles;
         few = let a = R .few in let b = w .few in omega arith;
-        midway = λ s inv gold room sh.
-            let m = R .midway s inv gold room sh in
+        midway = λ s led gold room sh.
+            let m = R .midway s led gold room sh in
             let l = put-length q (told (done F P s n)) in
             let a : length (r .memory) ≡ length (q .memory) = ap (λ (x : Queue Event). length (x .memory)) (m .line) ∙ l .0 in
             let b : r .held ≡ q .held + length (told (done F P s n)) = ap (λ (x : Queue Event). x .held) (m .line) ∙ l .1 in
@@ -78,7 +77,7 @@ module _ (F : Fabric) (i : Tables) where
             let e = R .same in
             let m′ : Midway F (j .settings) s n j arrived q r off = subst (λ (Q : Settings). Midway F Q s n j arrived q r off) (sym e) m in
             subst (λ (Q : Settings). Midway F Q s (n + 1) k then q u (off + more)) e
-            (w .works s q off (subst (λ (Q : Settings). Inv F Q s 0) (sym e) inv) (subst (λ (Q : Settings). g ≡ golden-in F Q (s .cycles)) (sym e) gold) (omega arith) m′);
+            (w .works s q off (subst (λ (Q : Settings). Reached F Q s) (sym e) led) (subst (λ (Q : Settings). g ≡ golden-in F Q (s .cycles)) (sym e) gold) (omega arith) m′);
       }
 
   -- what arrived in each slot
@@ -98,7 +97,7 @@ module _ (F : Fabric) (i : Tables) where
     refuses : (k : ℕ) → ((s : State) → Shows F i s → cycle-verdict F P s q ≡ refused k []) → Works F i i (cycle q) (cycling (refused k []) q)
     refuses k h =
         record {
-          does = λ s ok inv sh.
+          does = λ s led sh.
               let e = h s sh in
               record {
                 exact = ap (answer s) (sym e);
@@ -123,12 +122,12 @@ module _ (F : Fabric) (i : Tables) where
           Works F i k (cycle q) (cycling (granted off) r)
       cycles-on room fits j k g arrived r off n gold all R a =
           record {
-            does = λ s ok inv sh.
+            does = λ s led sh.
                 let N = F .plan .nodes in
                 let v : cycle-verdict F P s q ≡ granted tt =
                 first s sh _ _ ∙ cond-false _ _ _ (le-ltb (length (q .memory) - q .held) (2 * N) room) in
                 let gold-s : g ≡ golden-in F P (s .cycles) = gold ∙ ap (golden-in F P) (sh .cycles) in
-                let m : Midway F P s N j arrived q r off = subst (λ (x : ℕ). Midway F P s x j arrived q r off) all (R .midway s inv gold-s (omega arith) sh) in
+                let m : Midway F P s N j arrived q r off = subst (λ (x : ℕ). Midway F P s x j arrived q r off) all (R .midway s led gold-s (omega arith) sh) in
                 let b = m .shows in
                 let e : k .settings ≡ P = a .settings ∙ R .same in
                 let turns : s .cycles * N + N ≡ (s .cycles + 1) * N = sym (add-mul (s .cycles) 1 N ∙ ap (λ x. s .cycles * N + x) (one-mul N)) in

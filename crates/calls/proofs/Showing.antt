@@ -7,16 +7,21 @@ use mathlib.Core.Bool.{not}
 use lib.ListN.{length, getD, set}
 use Rattle.std.proofs.shelf.Lists.{getD-set-same, getD-set-other}
 use Rattle.std.proofs.shelf.Tests.{cases-eq}
+use Rattle.fabric.specs.Layouts.{Lawful}
 use Rattle.bounds.specs.declared.settings.Settings.{Settings}
 use Rattle.bounds.specs.SetUp.{all-tickets}
 use Rattle.clock.specs.Draws.{register}
 use Rattle.network.specs.Log.{Happening, Log, packet, size, word, aim, free, sent, received}
 use Rattle.network.specs.Cycle.{Fabric, State}
 use Rattle.network.specs.Runs.{with-log}
+use Rattle.network.proofs.Invariant.{Inv}
+use Rattle.network.proofs.Running.{invariant as after-run}
+use Rattle.network.proofs.Solving.{led-one}
 use Rattle.calls.specs.declared.ticket.Ticket.{Ticket}
 use Rattle.calls.specs.declared.tables.Tables.{Tables}
 use Rattle.calls.specs.Records.{no-ticket, Keeps}
 use Rattle.calls.specs.Follow.{slot-of, Recorded, Records, Queued, Shows}
+use Rattle.calls.specs.Midway.{Reached}
 
 -- a record that shows one log shows another that says the same of its ticket
 pub like : (r : Ticket) (t : ℕ) (l m : Log) → free t m ≡ free t l → packet t m ≡ packet t l → sent t m ≡ sent t l →
@@ -43,6 +48,10 @@ change G t ts its l m h r mine others u g = go (cases-eq u t)
         subst (λ (v : ℕ). Recorded (getD (set ts t its) v no-ticket) v m) (sym q)
         (subst (λ (x : Ticket). Recorded x t m) (sym (getD-set-same ts t its no-ticket h)) (mine (subst (λ (v : ℕ). Recorded (getD ts v no-ticket) v l) q (r u g))))
     go (inr q) = subst (λ (x : Ticket). Recorded x u m) (sym (getD-set-other ts t u its no-ticket q)) (others u q (r u g))
+
+-- what holds of every state that a run leads to
+pub invariant : (F : Fabric) (P : Settings) → Lawful (F .plan) → (s : State) → Reached F P s → Inv F P s 0
+invariant F P law s r = subst (λ (x : State). Inv F P x 0) (sym (led-one F P law (r .1))) (after-run F P law (r .0))
 
 -- one more thing happened, of which tickets and queues tell
 pub logged : (F : Fabric) (i j : Tables) (s : State) (h : Happening) → Keeps i j → Shows F i s → Records (all-tickets (F .plan) (i .settings)) (j .tickets) (h ∷ s .log) →

@@ -32,10 +32,10 @@ use Rattle.network.proofs.Invariant.{Inv, Sits, Opened}
 use Rattle.calls.specs.Telling.{event-of}
 use Rattle.calls.specs.Records.{Keeps, Receives, Takes-in}
 use Rattle.calls.specs.Follow.{slot-of, Recorded, Records, Queued}
-use Rattle.calls.specs.Midway.{Between, Took}
+use Rattle.calls.specs.Midway.{Reached, Between, Took}
 use Rattle.network.proofs.Nodes.{taken-here}
 use Rattle.calls.proofs.Setting.{ticket-below}
-use Rattle.calls.proofs.Showing.{like, change}
+use Rattle.calls.proofs.Showing.{like, change, invariant}
 
 pub at-ordered : (here : Port → Option Flit) (p : Port) → at (in-slot-order here) p ≡ here p
 at-ordered here N = refl
@@ -80,10 +80,13 @@ module _ (f : Flit) (n c : ℕ) (l : Log) where
   off-other : (u : ℕ) (r : Ticket) → (u ≡ f .ticket → ⊥) → Recorded r u l → Recorded r u (off f n c ∷ l)
   off-other u r h = like r u l (off f n c ∷ l) refl refl refl (λ k. cond-false _ _ _ (and-left _ _ (ne-eqb u (f .ticket) h)))
 
-module _ (F : Fabric) (i : Tables) (s : State) (l : Log) (n g : ℕ) (law : Lawful (F .plan)) (inv : Inv F (i .settings) s 0) (h : n < F .plan .nodes)
+module _ (F : Fabric) (i : Tables) (s : State) (l : Log) (n g : ℕ) (law : Lawful (F .plan)) (led : Reached F (i .settings) s) (h : n < F .plan .nodes)
     (gold : g ≡ golden-in F (i .settings) (s .cycles)) (b : Between F s l i) where
   abbrev P : Settings
   P = i .settings
+
+  inv : Inv F P s 0
+  inv = invariant F P law s led
 
   -- what the code looks at is what the definition looks at
   same-places : in-slot-order (slot-of (i .slots) n) ≡ in-slot-order (s .slot n)

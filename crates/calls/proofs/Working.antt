@@ -33,10 +33,11 @@ use Rattle.network.proofs.Invariant.{Inv}
 use Rattle.calls.specs.Records.{Draws}
 use Rattle.calls.specs.Steps.{wished, far-place, Spread}
 use Rattle.calls.specs.Follow.{slot-of, Records, Queued}
-use Rattle.calls.specs.Midway.{Between, Took, Takes-off, Own, Let, Enters, Node-works}
+use Rattle.calls.specs.Midway.{Reached, Between, Took, Takes-off, Own, Let, Enters, Node-works}
 use Rattle.network.proofs.Cycling.{off-packet, off-waiting, off-sent, keeps-packet, keeps-waiting, keeps-sent, grown, half-log, grown-more}
 use Rattle.calls.proofs.Putting.{put-length, put-more}
 use Rattle.calls.proofs.Stepping.{far-same}
+use Rattle.calls.proofs.Showing.{invariant}
 use Rattle.calls.proofs.Takes.{at-ordered}
 
 -- the events and the count of happenings
@@ -159,8 +160,8 @@ module _ (F : Fabric) (law : Lawful (F .plan)) (i i₁ i₂ i₃ : Tables) (n g 
         same = drew .settings ∙ same-2;
         cycles = drew .cycles ∙ enters .keeps .cycles ∙ takes .keeps .cycles;
         few = takes .few;
-        works = λ s q count inv gold room m.
-            let took : Took F P s n (grown F P s n) i₁ u u₁ left-places off = takes .took F s (grown F P s n) law inv hn gold (m .shows) (omega arith) in
+        works = λ s q count led gold room m.
+            let took : Took F P s n (grown F P s n) i₁ u u₁ left-places off = takes .took F s (grown F P s n) law led hn gold (m .shows) (omega arith) in
             let more = put-length u (told (off-at (s .cycles) n (taken F P s n))) in
             let l1 : length (u₁ .memory) ≡ length (u .memory) = ap (λ (x : Queue Event). length (x .memory)) (took .line) ∙ more .0 in
             let h1 : u₁ .held ≡ u .held + length (told (off-at (s .cycles) n (taken F P s n))) = ap (λ (x : Queue Event). x .held) (took .line) ∙ more .1 in
@@ -168,8 +169,8 @@ module _ (F : Fabric) (law : Lawful (F .plan)) (i i₁ i₂ i₃ : Tables) (n g 
             let room-1 : u₁ .held < length (u₁ .memory) = omega arith in
             let let-in : Let F P s n (half-log F P s n) i₂ u₁ u₂ places =
             subst (λ (Q : Settings). Let F Q s n (half-log F P s n) i₂ u₁ u₂ places) same-1
-            (enters .lets F s (half-log F P s n) law (subst (λ (Q : Settings). Inv F Q s 0) (sym same-1) inv) hn
-            (subst (λ (Q : Settings). Own Q s n (half-log F P s n)) (sym same-1) (own-log F P s inv n)) (took .shows)
+            (enters .lets F s (half-log F P s n) law (subst (λ (Q : Settings). Reached F Q s) (sym same-1) led) hn
+            (subst (λ (Q : Settings). Own Q s n (half-log F P s n)) (sym same-1) (own-log F P s (invariant F P law s led) n)) (took .shows)
             (subst (λ (Q : Settings). left-places ≡ in-slot-order (left F Q s n)) (sym same-1) (took .gives)) room-1) in
             let drawn : i₃ .register ≡ register (P .seed) (suc (s .cycles * F .plan .nodes + n)) =
             drew .register ∙ ap shifted (enters .keeps .register ∙ takes .keeps .register ∙ m .drawn) in

@@ -18,11 +18,14 @@ use Rattle.bounds.specs.SetUp.{all-tickets}
 use Rattle.clock.specs.Draws.{register}
 use Rattle.network.specs.Computed.{taken, left, entering, ready, handing, done}
 use Rattle.line.specs.Queues.{Queue}
-use Rattle.network.specs.Runs.{put-all, told, count-off}
-use Rattle.network.proofs.Invariant.{Inv}
+use Rattle.network.specs.Runs.{Call, Leads, put-all, told, count-off}
 use Rattle.calls.specs.Records.{Keeps}
 use Rattle.calls.specs.Steps.{far-place}
 use Rattle.calls.specs.Follow.{slot-of, Records, Queued, Shows}
+
+-- a run leads to this state
+abbrev pub Reached : Fabric → Settings → State → Type 0
+Reached F P s = (run : List Call) × Leads F P run s
 
 -- the slots and the cycle of a state, and the tickets of a log
 pub record Between (F : Fabric) (s : State) (l : Log) (i : Tables) : Type 0 where
@@ -41,7 +44,7 @@ pub record Took (F : Fabric) (P : Settings) (s : State) (n : ℕ) (l : Log) (j :
 pub record Takes-off (i j : Tables) (n g : ℕ) (q r : Queue Event) (places : List (Option Flit)) (off : ℕ) : Type 0 where
   pub keeps : Keeps i j
   pub few : off < 2
-  pub took : (F : Fabric) (s : State) (l : Log) → Lawful (F .plan) → Inv F (i .settings) s 0 → n < F .plan .nodes → g ≡ golden-in F (i .settings) (s .cycles) →
+  pub took : (F : Fabric) (s : State) (l : Log) → Lawful (F .plan) → Reached F (i .settings) s → n < F .plan .nodes → g ≡ golden-in F (i .settings) (s .cycles) →
       Between F s l i → q .held < length (q .memory) → Took F (i .settings) s n l j q r places off
 
 -- step 2, at a node: a log that says of the node's own tickets what the state's log says
@@ -57,7 +60,7 @@ pub record Let (F : Fabric) (P : Settings) (s : State) (n : ℕ) (l : Log) (j : 
 
 pub record Enters (i j : Tables) (n : ℕ) (q r : Queue Event) (before after : List (Option Flit)) : Type 0 where
   pub keeps : Keeps i j
-  pub lets : (F : Fabric) (s : State) (l : Log) → Lawful (F .plan) → Inv F (i .settings) s 0 → n < F .plan .nodes → Own (i .settings) s n l →
+  pub lets : (F : Fabric) (s : State) (l : Log) → Lawful (F .plan) → Reached F (i .settings) s → n < F .plan .nodes → Own (i .settings) s n l →
       Between F s l i → before ≡ in-slot-order (left F (i .settings) s n) → q .held < length (q .memory) → Let F (i .settings) s n l j q r after
 
 -- after the first n nodes
@@ -74,7 +77,7 @@ pub record Node-works (F : Fabric) (i j : Tables) (n g : ℕ) (before after : Li
   pub same : j .settings ≡ i .settings
   pub cycles : j .cycles ≡ i .cycles
   pub few : off < 2
-  pub works : (s : State) (q : Queue Event) (count : ℕ) → Inv F (i .settings) s 0 → g ≡ golden-in F (i .settings) (s .cycles) → u .held + 2 ≤ length (u .memory) →
+  pub works : (s : State) (q : Queue Event) (count : ℕ) → Reached F (i .settings) s → g ≡ golden-in F (i .settings) (s .cycles) → u .held + 2 ≤ length (u .memory) →
       Midway F (i .settings) s n i before q u count → Midway F (i .settings) s (n + 1) j after q v (count + off)
 
 -- the loop over the nodes, from the tables i
@@ -82,5 +85,5 @@ pub record Round (F : Fabric) (i j : Tables) (n g : ℕ) (arrived : List (Option
   pub same : j .settings ≡ i .settings
   pub cycles : j .cycles ≡ i .cycles
   pub few : off ≤ n
-  pub midway : (s : State) → Inv F (i .settings) s 0 → g ≡ golden-in F (i .settings) (s .cycles) → q .held + 2 * F .plan .nodes ≤ length (q .memory) → Shows F i s →
+  pub midway : (s : State) → Reached F (i .settings) s → g ≡ golden-in F (i .settings) (s .cycles) → q .held + 2 * F .plan .nodes ≤ length (q .memory) → Shows F i s →
       Midway F (i .settings) s n j arrived q r off
