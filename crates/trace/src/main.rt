@@ -92,9 +92,11 @@ fn collect(
     network: &mut Network<Mesh, Chipper>,
     cycle: u32,
 ) -> Result<(), AnyError> {
-    let mut words = [0; 2];
     for node in 0..NODES {
-        if network.collect(destination(node), node, 0, &mut words).is_ok() {
+        let mut words = [0; 2];
+        if network
+            .collect(destination(node), node, 0, &mut words)
+            .is_ok() {
             let [first, second] = words;
             println!(rt, "{cycle} done {node} {first} {second}")?;
         }
