@@ -9,6 +9,7 @@ use super::switch::Switch;
 use fabric::parts::Flit;
 use fabric::parts::Port;
 
+#[derive(Drop)]
 pub struct Bless;
 
 // Whether one flit goes before another, if both are ordinary.

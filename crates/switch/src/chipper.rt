@@ -8,6 +8,7 @@ use super::switch::Switch;
 use fabric::parts::Flit;
 use fabric::parts::Port;
 
+#[derive(Drop)]
 pub struct Chipper;
 
 // What a wire between blocks carries: a place, with the rank of its flit and the wish.
