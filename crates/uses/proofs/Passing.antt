@@ -7,7 +7,7 @@ use Rattle.fabric.specs.declared.mesh.Mesh.{Mesh}
 use Rattle.fabric.specs.Layouts.{Plan, Lawful}
 use Rattle.fabric.specs.Meshes.{mesh-plan}
 use Rattle.fabric.specs.Verdicts.{Verdict}
-use Rattle.fabric.specs.Verdicts.Verdict.{granted}
+use Rattle.fabric.specs.Verdicts.Verdict.{granted, refused}
 use Rattle.fabric.proofs.Grid.{mesh-lawful}
 use Rattle.switch.specs.Chippers.{chipper-turn}
 use Rattle.line.specs.Queues.{Queue, empty}
@@ -109,6 +109,10 @@ brings-so i a b c d j q r s t u v w x y m set e offers one two three collects =
     served-more done-2 (subst (λ (z : Queue Event). Promised net c d (cycle z) (cycling x t)) e-2 three) in
     ap brought (the-outcomes i j set whole _ (served-more done-3 collects)) ∙ last
 
+abbrev plan-in : Verdict Plan → Plan
+plan-in (granted p) = p
+plan-in (refused k vs) = mesh-plan 2 1
+
 module _ {C : Type 0} where
   abbrev plan-of : Network Mesh C → Plan
   plan-of n = mesh-plan (n .layout .width) (n .layout .height)
@@ -119,11 +123,12 @@ module _ {C : Type 0} where
     pub layout : m .layout ≡ n .layout
 
   -- the calls of a network of two nodes bring these words
-  pub brings : (z n a b c d j : Network Mesh C) {q r s t : Queue Event} {u : Verdict (Unit {0})} {v w x y : Verdict ℕ} {m : List ℕ} →
-      plan-of z ≡ mesh-plan 2 1 → Begins (over (plan-of z)) small (n .inner) → n .layout ≡ z .layout → q ≡ line-0 →
+  pub brings : (mesh : Mesh) (z n a b c d j : Network Mesh C) {q r s t : Queue Event} {u : Verdict (Unit {0})} {v w x y : Verdict ℕ} {m : List ℕ} →
+      granted (mesh-plan (mesh .width) (mesh .height)) ≡ granted (mesh-plan 2 1) → z .layout ≡ mesh →
+      Begins (over (plan-of z)) small (n .inner) → n .layout ≡ z .layout → q ≡ line-0 →
       Moves n a (offer 0 0 1 (7 ∷ 9 ∷ [])) (offering u) → Moves a b (cycle q) (cycling v r) → Moves b c (cycle r) (cycling w s) → Moves c d (cycle s) (cycling x t) →
       Moves d j (collect 1 0 0 (0 ∷ 0 ∷ [])) (collecting y m) → _≡_ {A = Verdict ℕ × List ℕ} (y, m) (granted 2, 7 ∷ 9 ∷ [])
-  brings z n a b c d j {q} {r} {s} {t} {u} {v} {w} {x} {y} {m} e set same l offers one two three collects =
+  brings mesh z n a b c d j {q} {r} {s} {t} {u} {v} {w} {x} {y} {m} two-nodes its set same l offers one two three collects =
       let at-a : a .layout ≡ z .layout = offers .layout ∙ same in
       let at-b : b .layout ≡ z .layout = one .layout ∙ at-a in
       let at-c : c .layout ≡ z .layout = two .layout ∙ at-b in
@@ -132,6 +137,9 @@ module _ {C : Type 0} where
       (subst (λ (p : Plan). Begins (over p) small (n .inner)) e set) l
       (here n a same offers) (here a b at-a one) (here b c at-b two) (here c d at-c three) (here d j at-d collects)
     where
+      e : plan-of z ≡ mesh-plan 2 1
+      e = ap (λ (x : Mesh). mesh-plan (x .width) (x .height)) its ∙ ap plan-in two-nodes
+
       here : (f g : Network Mesh C) {k : Call} {o : Outcome} → f .layout ≡ z .layout → Moves f g k o → Promised net (f .inner) (g .inner) k o
       here f g {k} {o} at moves =
           subst (λ (p : Plan). Promised (over p) (f .inner) (g .inner) k o) (ap (λ (x : Mesh). mesh-plan (x .width) (x .height)) at ∙ e) (moves .promised)

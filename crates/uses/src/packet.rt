@@ -2,7 +2,6 @@
 ghost use mathlib.Core.Path.{_≡_};
 ghost use mathlib.Core.List.{[], _∷_};
 ghost use Rattle.std.specs.declared.result.Result.the-variants.{Ok};
-ghost use Rattle.fabric.specs.Meshes.{mesh-plan};
 use bounds::settings::Settings;
 use calls::calls::Network;
 use fabric::mesh::Mesh;
@@ -35,9 +34,11 @@ const FROM: usize = 0;
 const TO: usize = 1;
 
 // Both words are injected in the first two cycles, and ejected in the second and third.
-pub fn two_words(network: &mut Network<Mesh, Chipper>) -> Result<[u32; 2], Refusal>
-    ensures { λ r. ⌜ (mesh-plan (now (network .entry) .layout .width) (now (network .entry) .layout .height) ≡ mesh-plan 2 1 → r ≡ Ok (7 ∷ 9 ∷ [])) ⌝ }
+pub fn two_words() -> Result<[u32; 2], Refusal>
+    ensures { λ r. ⌜ r ≡ Ok (7 ∷ 9 ∷ []) ⌝ }
 {
+    let mesh = Mesh::new(2, 1)?;
+    let mut network = Network::new(mesh, Chipper);
     network.set_up(SMALL)?;
     let sent = [7, 9];
     let mut events = [NO_EVENT; 8];
