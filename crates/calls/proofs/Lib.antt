@@ -1,0 +1,14 @@
+pub mod Promising
+pub mod Recording
+pub mod Showing
+pub mod Pigeons
+pub mod Looking
+pub mod Setting
+pub mod Offers
+pub mod Collects
+pub mod Stepping
+pub mod Putting
+pub mod Takes
+pub mod Lets
+pub mod Working
+pub mod Rounds
