@@ -1,6 +1,8 @@
 -- What a call does from any state, it promises of every run.
 use mathlib.Core.Path.{_≡_, refl, sym, ap₂, subst, subst₂, _∙_}
 use mathlib.Core.List.{List, [], _∷_}
+use mathlib.Core.Bool.{true, false}
+use Rattle.std.proofs.shelf.Tests.{both-ways}
 use Rattle.fabric.specs.Layouts.{Lawful}
 use Rattle.fabric.specs.Verdicts.Verdict.{granted}
 use Rattle.switch.specs.Switches.{Lawful-switch}
@@ -15,9 +17,9 @@ use Rattle.network.proofs.Solving.{served-one, answered, clear-after, led-one}
 use Rattle.network.proofs.Kept.{kept}
 use Rattle.calls.specs.declared.tables.Tables.{Tables}
 use Rattle.calls.specs.Follow.{Shows, Follows, Continues, Refused, Promised, Served, Answers, Kept-throughout, Whole}
-use Rattle.calls.specs.Midway.{Reached}
 use Rattle.calls.specs.Follow.Served.{begun, one-more as served-more}
 use Rattle.calls.specs.Follow.Answers.{set-up as no-call, one-more as a-call}
+use Rattle.calls.specs.Midway.{Reached}
 
 -- what a call does, from a state that the tables show
 pub record Does (F : Fabric) (i j : Tables) (s : State) (k : Call) (o : Outcome) : Type 0 where
@@ -28,6 +30,10 @@ pub record Does (F : Fabric) (i j : Tables) (s : State) (k : Call) (o : Outcome)
 -- and from every such state to which a run leads
 pub record Works (F : Fabric) (i j : Tables) (k : Call) (o : Outcome) : Type 0 where
   pub does : (s : State) → Reached F (i .settings) s → Shows F i s → Does F i j s k o
+
+-- what is granted is not refused
+pub not-refused : {A : Type 0} → false ≡ true → A
+not-refused e = absurd (both-ways false refl e)
 
 module _ (F : Fabric) (law : Lawful (F .plan)) (sw : Lawful-switch (F .turn)) where
   computed : (P : Settings) (run : List Call) (k : Call) → Serves F P (after F P run) k (outcome F P (after F P run) k) (next F P (after F P run) k)

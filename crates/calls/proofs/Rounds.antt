@@ -15,29 +15,29 @@ use Rattle.fabric.specs.declared.parts.Slot.{Slot}
 use Rattle.fabric.specs.declared.parts.Flit.{Flit}
 use Rattle.fabric.specs.Layouts.{Lawful}
 use Rattle.fabric.specs.Ports.{place-of}
+use Rattle.fabric.specs.Verdicts.{Verdict, granting}
+use Rattle.fabric.specs.Verdicts.Verdict.{granted, refused}
+use Rattle.fabric.proofs.Following.{far-exists}
 use Rattle.switch.specs.Switches.{at, turned}
-use Rattle.network.specs.declared.event.Event.{Event}
-use Rattle.calls.specs.declared.ticket.Ticket.{Ticket}
-use Rattle.calls.specs.declared.waits.Waits.{Waits}
-use Rattle.calls.specs.declared.tables.Tables.{Tables}
-use Rattle.network.specs.Cycle.{Fabric, State, golden-in}
+use Rattle.line.specs.Queues.{Queue}
 use Rattle.bounds.specs.declared.settings.Settings.{Settings}
 use Rattle.bounds.specs.SetUp.{all-tickets}
 use Rattle.clock.specs.Draws.{register}
-use Rattle.network.specs.Computed.{handing, arriving, done, cycled, decided}
-use Rattle.line.specs.Queues.{Queue}
+use Rattle.network.specs.declared.event.Event.{Event}
+use Rattle.network.specs.Cycle.{Fabric, State, golden-in}
 use Rattle.network.specs.Runs.{Outcome, put-all, told, count-off, cycle-verdict}
-use Rattle.fabric.specs.Verdicts.{Verdict, granting}
 use Rattle.network.specs.Runs.Call.{cycle}
 use Rattle.network.specs.Runs.Outcome.{cycling}
-use Rattle.fabric.specs.Verdicts.Verdict.{granted, refused}
+use Rattle.network.specs.Computed.{handing, arriving, done, cycled, decided}
+use Rattle.calls.specs.declared.ticket.Ticket.{Ticket}
+use Rattle.calls.specs.declared.waits.Waits.{Waits}
+use Rattle.calls.specs.declared.tables.Tables.{Tables}
 use Rattle.calls.specs.Records.{Advances}
 use Rattle.calls.specs.Steps.{far-place}
 use Rattle.calls.specs.Follow.{slot-of, Records, Queued, Shows}
-use Rattle.calls.proofs.Promising.{Works}
 use Rattle.calls.specs.Midway.{Reached, Midway, Node-works, Round}
+use Rattle.calls.proofs.Promising.{Works}
 use Rattle.calls.proofs.Putting.{put-length}
-use Rattle.fabric.proofs.Following.{far-exists}
 use Rattle.calls.proofs.Working.{told-few}
 
 module _ (F : Fabric) (i : Tables) where

@@ -16,25 +16,25 @@ use Rattle.fabric.specs.declared.parts.Port.{Port}
 use Rattle.fabric.specs.declared.parts.Flit.{Flit}
 use Rattle.fabric.specs.Layouts.{Lawful}
 use Rattle.switch.specs.Switches.{Handing, at, turned}
-use Rattle.network.specs.declared.event.Event.{Event}
-use Rattle.calls.specs.declared.ticket.Ticket.{Ticket}
-use Rattle.calls.specs.declared.waits.Waits.{Waits}
-use Rattle.calls.specs.declared.tables.Tables.{Tables}
-use Rattle.network.specs.Log.{Log, sent}
-use Rattle.network.specs.Log.Happening.{offered, entered, off, collected}
-use Rattle.network.specs.Cycle.{Fabric, State, golden-in, wish-of, off-at, entered-at, in-slot-order}
+use Rattle.line.specs.Queues.{Queue}
 use Rattle.bounds.specs.declared.settings.Settings.{Settings}
 use Rattle.bounds.specs.SetUp.{all-tickets}
 use Rattle.clock.specs.Draws.{register, shifted, draw-bits}
-use Rattle.network.specs.Computed.{taken, left, entering, ready, handing, done}
-use Rattle.line.specs.Queues.{Queue}
+use Rattle.network.specs.declared.event.Event.{Event}
+use Rattle.network.specs.Log.{Log, sent}
+use Rattle.network.specs.Log.Happening.{offered, entered, off, collected}
+use Rattle.network.specs.Cycle.{Fabric, State, golden-in, wish-of, off-at, entered-at, in-slot-order}
 use Rattle.network.specs.Runs.{put-all, told, count-off}
+use Rattle.network.specs.Computed.{taken, left, entering, ready, handing, done}
 use Rattle.network.proofs.Invariant.{Inv}
+use Rattle.network.proofs.Cycling.{off-packet, off-waiting, off-sent, keeps-packet, keeps-waiting, keeps-sent, grown, half-log, grown-more}
+use Rattle.calls.specs.declared.ticket.Ticket.{Ticket}
+use Rattle.calls.specs.declared.waits.Waits.{Waits}
+use Rattle.calls.specs.declared.tables.Tables.{Tables}
 use Rattle.calls.specs.Records.{Draws}
 use Rattle.calls.specs.Steps.{wished, far-place, Spread}
 use Rattle.calls.specs.Follow.{slot-of, Records, Queued}
 use Rattle.calls.specs.Midway.{Reached, Between, Took, Takes-off, Own, Let, Enters, Node-works}
-use Rattle.network.proofs.Cycling.{off-packet, off-waiting, off-sent, keeps-packet, keeps-waiting, keeps-sent, grown, half-log, grown-more}
 use Rattle.calls.proofs.Putting.{put-length, put-more}
 use Rattle.calls.proofs.Stepping.{far-same}
 use Rattle.calls.proofs.Showing.{invariant}
@@ -120,7 +120,7 @@ module _ (F : Fabric) (P : Settings) (s : State) where
       record {
         line = off-waiting F P s n n (taken F P s n) (grown F P s n) ∙ keeps-waiting F P s n n (omega arith);
         packets = λ t. off-packet F P s t n (taken F P s n) (grown F P s n) ∙ keeps-packet F P s n t;
-        sent = λ t e. off-sent F P s t n (taken F P s n) (grown F P s n) ∙ keeps-sent F P s inv n t (omega arith);
+        flits = λ t e. off-sent F P s t n (taken F P s n) (grown F P s n) ∙ keeps-sent F P s inv n t (omega arith);
       }
 
   -- what the code hands to the switch
