@@ -13,14 +13,12 @@ use Rattle.std.specs.declared.option.Option.{Option}
 use Rattle.std.specs.declared.option.Option.the-variants.{Some, None}
 use Rattle.fabric.specs.declared.parts.Flit.{Flit}
 use Rattle.fabric.specs.declared.parts.Port.{Port}
-use Rattle.fabric.specs.declared.parts.Slot.{Slot}
 use Rattle.fabric.specs.Layouts.{Lawful}
-use Rattle.fabric.proofs.Following.{far-exists}
 use Rattle.network.specs.Log.{Log, Packet, packet, word, aim, sent, waiting}
 use Rattle.bounds.specs.declared.settings.Settings.{Settings}
 use Rattle.bounds.specs.SetUp.{all-tickets}
 use Rattle.network.specs.Cycle.{Fabric, State, Next, off-at, entered-at}
-use Rattle.network.specs.Computed.{taken, left, entering, ready, handing, arriving, done, cycled}
+use Rattle.network.specs.Computed.{taken, left, entering, ready, arriving, done, cycled}
 use Rattle.network.proofs.Places.{some-none, some-pair}
 use Rattle.network.proofs.Nodes.{taken-here, slot-split, left-slot, left-gone, enters, ready-split, left-ready, entering-ready, leads-to, arrives, came}
 use Rattle.network.proofs.Invariant.{Waits, Inv, Each}
@@ -289,13 +287,11 @@ module _ (F : Fabric) (P : Settings) (s : State) where
         inv-move F P (stage (F .plan .nodes)) (F .plan .nodes) all (arriving F P s)
         (record {
           to = leads-to F P s;
-          ahead = λ n p f u. arrives F P s law n p f (sym (stage-done (F .plan .nodes) n p (all .sits n p f u .exists)) ∙ u);
+          ahead = λ n p f u. arrives F P s law n p f (all .sits n p f u .exists) (sym (stage-done (F .plan .nodes) n p (all .sits n p f u .exists)) ∙ u);
           back = λ m q f u.
               let z = came F P s law m q f u in
-              (z .node, z .port, stage-done (F .plan .nodes) (z .node) (z .port) (ready-exists (z .node) (z .port) f (z .there)) ∙ z .there, z .led);
-          exists = λ m q f u.
-              let z = came F P s law m q f u in
-              subst (λ (x : Slot). x .node < F .plan .nodes) (z .led) (far-exists (F .plan) law (z .node) (F .turn (handing F P s (z .node)) .to (z .port)) (ready-exists (z .node) (z .port) f (z .there)));
+              (z .node, z .port, stage-done (F .plan .nodes) (z .node) (z .port) (z .exists) ∙ z .there, z .led);
+          exists = λ m q f u. came F P s law m q f u .to-exists;
         })
         (s .cycles + 1) 0 (λ a b h. (let y = h .0 in omega arith, λ u. let y = h .0 in absurd (omega arith)))
       where

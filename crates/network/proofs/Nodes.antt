@@ -4,27 +4,21 @@ use mathlib.Core.Path.{_≡_, refl, sym, ap, subst, _∙_}
 use mathlib.Core.List.{List}
 use mathlib.Core.Logic.{_⊎_, inl, inr, ⊎-elim}
 use native.Mathlib.Omega.{arith}
-use Rattle.std.proofs.shelf.Tests.{cases-lt}
+use Rattle.std.proofs.shelf.Tests.{cases-lt, lt-ltb, le-ltb}
 use Rattle.std.specs.declared.option.Option.{Option}
 use Rattle.std.specs.declared.option.Option.the-variants.{Some, None}
 use Rattle.fabric.specs.declared.parts.Flit.{Flit}
 use Rattle.fabric.specs.declared.parts.Slot.{Slot}
 use Rattle.fabric.specs.declared.parts.Port.{Port}
 use Rattle.fabric.specs.declared.parts.Port.the-variants.{N, E, S, W}
-use Rattle.fabric.specs.Layouts.{Plan, Lawful}
+use Rattle.fabric.specs.Layouts.{Exists, Missing, Lawful}
+use Rattle.fabric.proofs.Following.{far-exists}
 use Rattle.switch.specs.Switches.{Turn, at, turned}
 use Rattle.bounds.specs.declared.settings.Settings.{Settings}
 use Rattle.network.specs.Cycle.{Fabric, State, golden-in, wish-of, Destined, Takes, Remains, Lets-in, Filled}
-use Rattle.network.specs.Computed.{taken, left, entering, ready, handing, arriving}
+use Rattle.network.specs.Computed.{taken, left, entering, ready, handing, leaving, arriving}
 use Rattle.network.proofs.Places.{some-none, some-same, pair-some, port-cases}
 use Rattle.network.proofs.Choosing.{work-is}
-
-pub far-far : (p : Plan) → Lawful p → (n : ℕ) (s : Port) → p .far (p .far n s .node) (p .far n s .port) ≡ record { node = n; port = s }
-far-far p law n s = go (cases-lt n (p .nodes))
-  where
-    go : (n < p .nodes) ⊎ (p .nodes ≤ n) → p .far (p .far n s .node) (p .far n s .port) ≡ record { node = n; port = s }
-    go (inl h) = law .back n s h
-    go (inr h) = let e : p .far n s ≡ record { node = n; port = s } = law .missing-far n s h in rw e (law .missing-far n s h)
 
 pub at-turned : {A : Type 0} (t : Turn) (xs : List (Option A)) (q : Port) → at (turned t xs) q ≡ at xs (t .from q)
 at-turned t xs N = refl
@@ -117,35 +111,50 @@ module _ (F : Fabric) (P : Settings) (s : State) where
   abbrev pub leads-to : ℕ → Port → Slot
   leads-to n p = F .plan .far n (F .turn (handing F P s n) .to p)
 
-  pub arrives-from : (m : ℕ) (q : Port) → arriving F P s m q ≡ ready F P s (F .plan .far m q .node) (F .turn (handing F P s (F .plan .far m q .node)) .from (F .plan .far m q .port))
+  pub arriving-is : (m : ℕ) (q : Port) → Exists (F .plan) m → arriving F P s m q ≡ leaving F P s (F .plan .far m q .node) (F .plan .far m q .port)
   unfolding arriving
-  arrives-from m q =
-      let x = F .plan .far m q in
-      at-turned (F .turn (handing F P s (x .node))) (handing F P s (x .node) .places) (x .port) ∙ at-places (x .node) (F .turn (handing F P s (x .node)) .from (x .port))
+  arriving-is m q h = rw (lt-ltb m (F .plan .nodes) h) refl
 
-  pub arrives : Lawful (F .plan) → (n : ℕ) (p : Port) (f : Flit) → ready F P s n p ≡ Some f → arriving F P s (leads-to n p .node) (leads-to n p .port) ≡ Some f
-  arrives law n p f e =
+  pub arriving-none : (m : ℕ) (q : Port) → Missing (F .plan) m → arriving F P s m q ≡ None
+  unfolding arriving
+  arriving-none m q h = rw (le-ltb m (F .plan .nodes) h) refl
+
+  leaving-is : (n : ℕ) (p : Port) → leaving F P s n p ≡ ready F P s n (F .turn (handing F P s n) .from p)
+  leaving-is n p = at-turned (F .turn (handing F P s n)) (handing F P s n .places) p ∙ at-places n (F .turn (handing F P s n) .from p)
+
+  pub arrives : Lawful (F .plan) → (n : ℕ) (p : Port) (f : Flit) → Exists (F .plan) n → ready F P s n p ≡ Some f →
+      arriving F P s (leads-to n p .node) (leads-to n p .port) ≡ Some f
+  arrives law n p f h e =
       let t = F .turn (handing F P s n) in
-      let x = far-far (F .plan) law n (t .to p) in
-      rw (arrives-from (leads-to n p .node) (leads-to n p .port), x, t .from-to p) e
+      arriving-is (leads-to n p .node) (leads-to n p .port) (far-exists (F .plan) law n (t .to p) h)
+      ∙ (ap (λ (x : Slot). leaving F P s (x .node) (x .port)) (law .back n (t .to p) h)
+      ∙ (leaving-is n (t .to p) ∙ (ap (ready F P s n) (t .from-to p) ∙ e)))
 
   -- where a flit that arrived comes from
   pub record Came (m : ℕ) (q : Port) (f : Flit) : Type 0 where
     pub node : ℕ
     pub port : Port
+    pub exists : Exists (F .plan) node
     pub there : ready F P s node port ≡ Some f
+    pub to-exists : Exists (F .plan) m
     pub led : leads-to node port ≡ record { node = m; port = q }
 
   pub came : Lawful (F .plan) → (m : ℕ) (q : Port) (f : Flit) → arriving F P s m q ≡ Some f → Came m q f
-  came law m q f e =
-      let x = F .plan .far m q in
-      let t = F .turn (handing F P s (x .node)) in
-      record {
-        node = x .node;
-        port = t .from (x .port);
-        there = sym (arrives-from m q) ∙ e;
-        led = ap (λ (r : Port). F .plan .far (x .node) r) (t .to-from (x .port)) ∙ far-far (F .plan) law m q;
-      }
+  came law m q f e = go (cases-lt m (F .plan .nodes))
+    where
+      go : Exists (F .plan) m ⊎ Missing (F .plan) m → Came m q f
+      go (inl h) =
+          let x = F .plan .far m q in
+          let t = F .turn (handing F P s (x .node)) in
+          record {
+            node = x .node;
+            port = t .from (x .port);
+            exists = far-exists (F .plan) law m q h;
+            there = sym (leaving-is (x .node) (x .port)) ∙ (sym (arriving-is m q h) ∙ e);
+            to-exists = h;
+            led = ap (λ (r : Port). F .plan .far (x .node) r) (t .to-from (x .port)) ∙ law .back m q h;
+          }
+      go (inr h) = some-none (arriving F P s m q) f (arriving-none m q h) e
 
   -- no golden flit destined for a node is lower than the golden flit that is taken off there
   pub taken-low : (n : ℕ) (p : Port) (f : Flit) → taken F P s n ≡ Some (p, f) →

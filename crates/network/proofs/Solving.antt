@@ -1,16 +1,13 @@
 -- The computed cycle, outcome and run are the one solution of the relations.
-use Prim.Native.Nat.{ℕ, zero, suc, _≤_, _<_}
+use Prim.Native.Nat.{ℕ, zero, suc, _<_}
 use mathlib.Core.Path.{_≡_, refl, sym, ap, ap₂, subst, _∙_}
 use mathlib.Core.List.{List, [], _∷_, _++_, append-assoc, append-nil}
 use mathlib.Core.Logic.{_⊎_, inl, inr}
 use native.Mathlib.Omega.{arith}
 use Rattle.std.proofs.shelf.Tests.{cases-lt}
-use Rattle.std.specs.declared.option.Option.{Option}
-use Rattle.std.specs.declared.option.Option.the-variants.{Some, None}
-use Rattle.fabric.specs.declared.parts.Flit.{Flit}
 use Rattle.fabric.specs.declared.parts.Port.{Port}
 use Rattle.fabric.specs.declared.parts.Slot.{Slot}
-use Rattle.fabric.specs.Layouts.{Missing, Lawful}
+use Rattle.fabric.specs.Layouts.{Exists, Missing, Lawful}
 use Rattle.fabric.specs.Verdicts.{Verdict, granting}
 use Rattle.fabric.specs.Verdicts.Verdict.{granted, refused}
 use Rattle.fabric.proofs.Following.{far-exists}
@@ -27,10 +24,9 @@ use Rattle.network.specs.Runs.Outcome.{offering, cycling, collecting}
 use Rattle.network.specs.Runs.Serves.{offer-granted, offer-refused, cycle-granted, cycle-refused, collect-granted, collect-refused, looks}
 use Rattle.network.specs.Runs.Leads.{set-up, one-more}
 use Rattle.network.specs.Promises.{puts, story, Answered}
-use Rattle.network.specs.Computed.{handing, arriving, done, cycled, decided, next, outcome, after}
+use Rattle.network.specs.Computed.{leaving, arriving, done, cycled, decided, next, outcome, after}
 use Rattle.network.proofs.Choosing.{computed, work-is, work-one}
-use Rattle.network.proofs.Cycling.{inv-cycle}
-use Rattle.network.proofs.Running.{invariant}
+use Rattle.network.proofs.Nodes.{arriving-is, arriving-none}
 
 module _ (F : Fabric) (P : Settings) where
   module _ (s : State) where
@@ -40,19 +36,15 @@ module _ (F : Fabric) (P : Settings) where
     news-done work (suc m) h =
         ap₂ (λ (w : Work) (l : Log). entered-at m (w .entry) ++ (off-at (s .cycles) m (w .off) ++ l)) (h m (omega arith)) (news-done work m (λ n k. h n (omega arith)))
 
-    -- no flit is at a node that is missing
-    abbrev Clear : Type 0
-    Clear = (m : ℕ) (q : Port) → Missing (F .plan) m → arriving F P s m q ≡ None
-
-    module _ (law : Lawful (F .plan)) (clear : Clear) where
+    module _ (law : Lawful (F .plan)) where
       pub cycle-is : Cycle F P s (cycled F P s)
-      unfolding arriving
       cycle-is = record {
         work = computed F P s;
         works = λ n h. work-is F P s n;
         arrives = λ n p h.
-            ap (λ (x : Slot). at (turned (F .turn (handing F P s (x .node))) (handing F P s (x .node) .places)) (x .port)) (law .back n p h);
-        nothing-else = clear;
+            arriving-is F P s (F .plan .far n p .node) (F .plan .far n p .port) (far-exists (F .plan) law n p h)
+            ∙ ap (λ (x : Slot). leaving F P s (x .node) (x .port)) (law .back n p h);
+        nothing-else = arriving-none F P s;
         counted = refl;
         logged = ap (λ (l : Log). l ++ s .log) (sym (news-done (computed F P s) (F .plan .nodes) (λ n h. refl)));
       }
@@ -61,23 +53,23 @@ module _ (F : Fabric) (P : Settings) where
       happened-is r c = news-done (c .work) (F .plan .nodes) (λ n h. work-one F P s n (c .work n) (c .works n h))
 
       pub cycle-one : (r : State) → Cycle F P s r → r ≡ cycled F P s
-      unfolding arriving
       cycle-one r c = λ i. record { cycles = c .counted i; slot = λ m q. same m q (cases-lt m (F .plan .nodes)) i; log = logged i }
         where
           logged : r .log ≡ done F P s (F .plan .nodes) ++ s .log
           logged = c .logged ∙ ap (λ (l : Log). l ++ s .log) (happened-is r c)
 
-          same : (m : ℕ) (q : Port) → (m < F .plan .nodes) ⊎ (F .plan .nodes ≤ m) → r .slot m q ≡ arriving F P s m q
+          same : (m : ℕ) (q : Port) → Exists (F .plan) m ⊎ Missing (F .plan) m → r .slot m q ≡ arriving F P s m q
           same m q (inl h) =
               let x : Slot = F .plan .far m q in
               let k = far-exists (F .plan) law m q h in
-              sym (ap (λ (y : Slot). r .slot (y .node) (y .port)) (law .back m q h)) ∙
-              (c .arrives (x .node) (x .port) k ∙
-              ap (λ (w : Work). at (turned (F .turn (w .handing)) (w .handing .places)) (x .port)) (work-one F P s (x .node) (c .work (x .node)) (c .works (x .node) k)))
-          same m q (inr h) = c .nothing-else m q h ∙ sym (clear m q h)
+              sym (ap (λ (y : Slot). r .slot (y .node) (y .port)) (law .back m q h))
+              ∙ (c .arrives (x .node) (x .port) k
+              ∙ (ap (λ (w : Work). at (turned (F .turn (w .handing)) (w .handing .places)) (x .port)) (work-one F P s (x .node) (c .work (x .node)) (c .works (x .node) k))
+              ∙ sym (arriving-is F P s m q h)))
+          same m q (inr h) = c .nothing-else m q h ∙ sym (arriving-none F P s m q h)
 
   -- a call has one outcome and leads to one state
-  module _ (law : Lawful (F .plan)) (s : State) (clear : Clear s) where
+  module _ (law : Lawful (F .plan)) (s : State) where
     abbrev did : Log
     did = done F P s (F .plan .nodes)
 
@@ -107,7 +99,7 @@ module _ (F : Fabric) (P : Settings) where
         go : (v : Verdict (Unit {0})) → cycle-verdict F P s q ≡ v → Serves F P s (cycle q) (cycle-answers q v) (cycle-leads v)
         go (granted tt) e =
             subst (λ (l : Log). Serves F P s (cycle q) (cycling (granted (count-off l)) (put-all q (told l))) (cycled F P s))
-            (happened-is s law clear (cycled F P s) (cycle-is s law clear)) (cycle-granted e (cycle-is s law clear))
+            (happened-is s law (cycled F P s) (cycle-is s law)) (cycle-granted e (cycle-is s law))
         go (refused k vs) e = cycle-refused e
     served (collect r n o memory) = go (collect-verdict F P s r n o memory) refl
       where
@@ -120,8 +112,8 @@ module _ (F : Fabric) (P : Settings) where
     served-one (offer-granted {n} {o} {d} {ws} e) = (ap offering (sym e), ap (offer-leads n o d ws) (sym e))
     served-one (offer-refused {n} {o} {d} {k} {ws} {vs} e) = (ap offering (sym e), ap (offer-leads n o d ws) (sym e))
     served-one (cycle-granted {q} {r} e c) = (
-      ap (λ (l : Log). cycling (granted (count-off l)) (put-all q (told l))) (happened-is s law clear r c) ∙ ap (cycle-answers q) (sym e),
-      cycle-one s law clear r c ∙ ap cycle-leads (sym e),
+      ap (λ (l : Log). cycling (granted (count-off l)) (put-all q (told l))) (happened-is s law r c) ∙ ap (cycle-answers q) (sym e),
+      cycle-one s law r c ∙ ap cycle-leads (sym e),
     )
     served-one (cycle-refused {q} {k} {vs} e) = (ap (cycle-answers q) (sym e), ap cycle-leads (sym e))
     served-one (collect-granted {r} {n} {o} {k} {memory} e) = (ap (collect-answers n o memory) (sym e), ap (collect-leads r n o) (sym e))
@@ -132,22 +124,15 @@ module _ (F : Fabric) (P : Settings) where
     answered k = record { outcome = outcome F P s k; state = next F P s k; served = served k; only = λ o r v. served-one v }
 
   module _ (law : Lawful (F .plan)) where
-    pub clear-after : (run : List Call) → Clear (after F P run)
-    clear-after run m q h = go (arriving F P (after F P run) m q) refl
-      where
-        go : (o : Option Flit) → arriving F P (after F P run) m q ≡ o → o ≡ None
-        go None e = refl
-        go (Some f) e = let k = inv-cycle F P (after F P run) (invariant F P law run) law .sits m q f e .exists in absurd (omega arith)
-
     -- a run leads to one state
     pub led : (run : List Call) → Leads F P run (after F P run)
     led [] = set-up
-    led (k ∷ run) = one-more (led run) (served law (after F P run) (clear-after run) k)
+    led (k ∷ run) = one-more (led run) (served law (after F P run) k)
 
     pub led-one : {run : List Call} {s : State} → Leads F P run s → s ≡ after F P run
     led-one set-up = refl
     led-one (one-more {run} {s} {r} {k} {o} l v) =
-        served-one law (after F P run) (clear-after run) (subst (λ (x : State). Serves F P x k o r) (led-one l) v) .1
+        served-one law (after F P run) (subst (λ (x : State). Serves F P x k o r) (led-one l) v) .1
 
   one-later : (a b c d : List Event) → a ≡ b ++ c → a ++ d ≡ b ++ (c ++ d)
   one-later a b c d e = ap (λ (x : List Event). x ++ d) e ∙ append-assoc b c d

@@ -101,11 +101,13 @@ module _ (F : Fabric) (P : Settings) (s : State) where
         draws = draws-at F P s n;
       }
 
-  -- what leaves the place at its far end
+  -- what leaves a node by its ports
+  abbrev pub leaving : ℕ → Places
+  leaving n p = at (turned (F .turn (handing n)) (handing n .places)) p
+
+  -- what leaves the place at its far end, if the node exists
   unfoldable pub arriving : ℕ → Places
-  arriving m q =
-      let from = F .plan .far m q in
-      at (turned (F .turn (handing (from .node))) (handing (from .node) .places)) (from .port)
+  arriving m q = cond (ltb m (F .plan .nodes)) (leaving (F .plan .far m q .node) (F .plan .far m q .port)) None
 
   -- what the nodes below n did, newest first
   unfoldable pub done : ℕ → Log

@@ -48,11 +48,11 @@ in-slot-order x = x N ∷ x E ∷ x S ∷ x W ∷ []
 abbrev pub Destined : ℕ → Places → Port → Flit → Type 0
 Destined n slots p f = (slots p ≡ Some f) × (f .destination ≡ n)
 
--- with g the golden ticket, flit f in slot p is taken off rather than h in slot q
+-- where ticket g is golden, flit f in slot p goes before h in slot q: the golden one of the lowest number, else the first in slot order
 pub record Before (g : ℕ) (p : Port) (f : Flit) (q : Port) (h : Flit) : Type 0 where
-  -- golden flits first, and of these the lower number
+  -- a golden flit is preceded only by a golden one of a number as low
   pub golden-first : h .ticket ≡ g → (f .ticket ≡ g) × (f .number ≤ h .number)
-  -- where f does not win so, it is the first in slot order
+  -- where f is not ahead of h in this, it is in slot order
   pub else-first : (f .ticket ≡ g → (h .ticket ≡ g) × (h .number ≤ f .number)) → place-of p ≤ place-of q
 
 -- of the flits destined for the node, the one before all others; none if none is destined for it

@@ -37,6 +37,7 @@ pub data Outcome : Type 0 where
   collecting : Verdict ℕ → List ℕ → Outcome
   looking : Verdict (Option Flit) → Outcome
 
+-- the port of a number, in slot order
 abbrev pub port-of : ℕ → Port
 port-of ℕ.zero = N
 port-of (ℕ.suc ℕ.zero) = E
@@ -65,6 +66,7 @@ count-off (entered f n ∷ l) = count-off l
 count-off (off f n c ∷ l) = count-off l + 1
 count-off (collected t r ws ∷ l) = count-off l
 
+-- put into a line one after another
 abbrev pub put-all : {A : Type 0} → Queue A → List A → Queue A
 put-all q [] = q
 put-all q (x ∷ xs) = put-all (put q x) xs
@@ -81,6 +83,8 @@ module _ (F : Fabric) (P : Settings) where
   abbrev pub missing : ℕ → Bool
   missing n = leb (F .plan .nodes) n
 
+  -- 4: the node or its own ticket does not exist; 5: the destination does not exist or is the node itself;
+  -- 6: there are no words, or too many; 7: the ticket is not free
   abbrev pub offer-verdict : State → ℕ → ℕ → ℕ → List ℕ → Verdict (Unit {0})
   offer-verdict s n o d ws =
       judged
@@ -91,6 +95,7 @@ module _ (F : Fabric) (P : Settings) where
       ∷ [])
       tt
 
+  -- 10: so many cycles are carried out already; 11: the line lacks room for two events a node
   abbrev pub cycle-verdict : State → Queue Event → Verdict (Unit {0})
   cycle-verdict s q =
       judged
@@ -103,6 +108,8 @@ module _ (F : Fabric) (P : Settings) where
   abbrev pub collection : State → ℕ → List ℕ
   collection s t = gathered t (size (packet t (s .log))) (s .log)
 
+  -- 4: a node or the own ticket does not exist; 8: the ticket is not complete, or its packet has another destination;
+  -- 9: the memory is shorter than the packet
   abbrev pub collect-verdict : State → ℕ → ℕ → ℕ → List ℕ → Verdict ℕ
   collect-verdict s r n o memory =
       let t : ℕ = ticket n o in
@@ -113,10 +120,12 @@ module _ (F : Fabric) (P : Settings) where
       ∷ [])
       (size (packet t (s .log)))
 
+  -- 4: the node or the port does not exist
   abbrev pub look-verdict : State → ℕ → ℕ → Verdict (Option Flit)
   look-verdict s n p =
       judged ((4, missing n || leb 4 p) ∷ []) (s .slot n (port-of p))
 
+  -- the state with one happening more
   abbrev pub with-log : State → Happening → State
   with-log s h = record { cycles = s .cycles; slot = s .slot; log = h ∷ s .log }
 

@@ -18,7 +18,7 @@ use Rattle.network.specs.Cycle.{Fabric, State, Cycle}
 use Rattle.network.specs.Runs.{Outcome, fresh}
 use Rattle.network.specs.Runs.Outcome.{looking}
 use Rattle.network.specs.Computed.{taken, left, entering, ready, handing, arriving, done, cycled, after}
-use Rattle.network.proofs.Solving.{cycle-one, clear-after, led, led-one, served-one}
+use Rattle.network.proofs.Solving.{cycle-one, led, led-one, served-one}
 use Rattle.worked.specs.Example.{row, settings, first-offer, both-sent, whole, seven, nine, Example, Excluded}
 
 abbrev net : Fabric
@@ -52,16 +52,16 @@ excluded = record {
   counts-only = λ s r l _ stays c.
       let e : s ≡ offered-one = led-one net settings law l in
       let d : r ≡ cycled net settings offered-one =
-      cycle-one net settings offered-one law (clear-after net settings law first-offer) r (subst (λ (x : State). Cycle net settings x r) e c) in
+      cycle-one net settings offered-one law r (subst (λ (x : State). Cycle net settings x r) e c) in
       let z : 2 ≡ 1 = ap (λ (x : Log). length x) (sym (ap (λ (x : State). x .log) d) ∙ (stays ∙ ap (λ (x : State). x .log) e)) in
       omega arith;
   refuses-all = λ k vs r v.
-      let e = served-one net settings law fresh (clear-after net settings law []) v .0 in
+      let e = served-one net settings law fresh v .0 in
       let z : _≡_ {A = ℕ} 0 1 = cc in omega arith;
   looks-alike = λ o h.
       one-answer seven o
-      (served-one net settings law fresh (clear-after net settings law []) (h [] fresh (led net settings law [])) .0)
-      (served-one net settings law (after net settings both-sent) (clear-after net settings law both-sent) (h both-sent (after net settings both-sent) (led net settings law both-sent)) .0);
+      (served-one net settings law fresh (h [] fresh (led net settings law [])) .0)
+      (served-one net settings law (after net settings both-sent) (h both-sent (after net settings both-sent) (led net settings law both-sent)) .0);
   no-switch = λ s l m.
       let a : Some nine ≡ s .slot 2 W = ap (λ (x : State). x .slot 2 W) (sym (led-one net settings law l)) in
       let b : s .slot 2 W ≡ Some seven = ap (λ (x : State). x .slot 2 W) (led-one (row bless-turn) settings law m) in
