@@ -8,7 +8,6 @@ use Rattle.std.specs.declared.option.Option.the-variants.{None}
 use Rattle.fabric.specs.declared.parts.Port.{Port}
 use Rattle.fabric.specs.declared.parts.Flit.{Flit}
 use Rattle.fabric.specs.Layouts.{Lawful}
-use Rattle.switch.specs.Switches.{at, turned}
 use Rattle.line.specs.Queues.{Queue}
 use Rattle.bounds.specs.declared.settings.Settings.{Settings}
 use Rattle.bounds.specs.SetUp.{all-tickets}
@@ -17,7 +16,7 @@ use Rattle.network.specs.declared.event.Event.{Event}
 use Rattle.network.specs.Log.{Log, packet, sent, waiting}
 use Rattle.network.specs.Cycle.{Fabric, State, golden-in, off-at, entered-at, in-slot-order}
 use Rattle.network.specs.Runs.{Call, Leads, put-all, told, count-off}
-use Rattle.network.specs.Computed.{taken, left, entering, ready, handing, done}
+use Rattle.network.specs.Computed.{taken, left, entering, ready, leaving, done}
 use Rattle.calls.specs.declared.tables.Tables.{Tables}
 use Rattle.calls.specs.Records.{Keeps}
 use Rattle.calls.specs.Steps.{far-place}
@@ -69,7 +68,7 @@ pub record Midway (F : Fabric) (P : Settings) (s : State) (n : ℕ) (i : Tables)
   pub settings : i .settings ≡ P
   pub shows : Between F s (done F P s n ++ s .log) i
   pub drawn : i .register ≡ register (P .seed) (s .cycles * F .plan .nodes + n)
-  pub sent : (m : ℕ) (p : Port) → m < n → getD arrived (far-place (F .plan) m p) None ≡ at (turned (F .turn (handing F P s m)) (handing F P s m .places)) p
+  pub sent : (m : ℕ) (p : Port) → m < n → getD arrived (far-place (F .plan) m p) None ≡ leaving F P s m p
   pub line : r ≡ put-all q (told (done F P s n))
   pub count : off ≡ count-off (done F P s n)
 
