@@ -12,20 +12,20 @@ use Rattle.std.specs.declared.option.Option.{Option}
 use Rattle.std.specs.declared.option.Option.the-variants.{None}
 use Rattle.std.proofs.shelf.Tests.{le-leb, lt-leb, le-ltb, lt-ltb, eq-eqb, ne-eqb, or-left, or-right, or-from, cond-true, cond-false, not-from-true, not-from-false}
 use Rattle.fabric.specs.Layouts.{Lawful}
-use Rattle.calls.specs.declared.tables.Tables.{Tables}
-use Rattle.calls.specs.declared.ticket.Ticket.{Ticket}
-use Rattle.calls.specs.declared.waits.Waits.{Waits}
+use Rattle.fabric.specs.Verdicts.{Verdict}
+use Rattle.fabric.specs.Verdicts.Verdict.{granted, refused}
+use Rattle.bounds.specs.declared.settings.Settings.{Settings}
+use Rattle.bounds.specs.SetUp.{all-tickets}
 use Rattle.network.specs.Log.{Log, packet, size, aim, free, sent, received, has, value, filled, complete, gathered}
 use Rattle.network.specs.Log.Happening.{collected}
 use Rattle.network.specs.Cycle.{Fabric, State}
-use Rattle.bounds.specs.declared.settings.Settings.{Settings}
-use Rattle.bounds.specs.SetUp.{all-tickets}
-use Rattle.fabric.specs.Verdicts.{Verdict}
 use Rattle.network.specs.Runs.{ticket, missing, collect-verdict, with-log, over}
-use Rattle.network.specs.Computed.{decided}
 use Rattle.network.specs.Runs.Call.{collect}
 use Rattle.network.specs.Runs.Outcome.{collecting}
-use Rattle.fabric.specs.Verdicts.Verdict.{granted, refused}
+use Rattle.network.specs.Computed.{decided}
+use Rattle.calls.specs.declared.tables.Tables.{Tables}
+use Rattle.calls.specs.declared.ticket.Ticket.{Ticket}
+use Rattle.calls.specs.declared.waits.Waits.{Waits}
 use Rattle.calls.specs.Records.{no-ticket, all-in, values, Frees}
 use Rattle.calls.specs.Follow.{Shows, Recorded, Records, Queued}
 use Rattle.calls.proofs.Promising.{Works}

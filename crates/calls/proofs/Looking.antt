@@ -8,13 +8,13 @@ use lib.ListN.{getD}
 use Rattle.std.specs.declared.option.Option.the-variants.{None}
 use Rattle.std.proofs.shelf.Tests.{le-leb, lt-leb, or-left, or-right, or-from, cond-true, cond-false}
 use Rattle.fabric.specs.Ports.{place-of}
-use Rattle.calls.specs.declared.tables.Tables.{Tables}
-use Rattle.network.specs.Cycle.{Fabric, State}
 use Rattle.fabric.specs.Verdicts.{Verdict}
+use Rattle.fabric.specs.Verdicts.Verdict.{granted, refused}
+use Rattle.network.specs.Cycle.{Fabric, State}
 use Rattle.network.specs.Runs.{look-verdict, port-of}
 use Rattle.network.specs.Runs.Call.{look}
 use Rattle.network.specs.Runs.Outcome.{looking}
-use Rattle.fabric.specs.Verdicts.Verdict.{granted, refused}
+use Rattle.calls.specs.declared.tables.Tables.{Tables}
 use Rattle.calls.specs.Follow.{Shows}
 use Rattle.calls.proofs.Promising.{Works}
 

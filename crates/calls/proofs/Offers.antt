@@ -13,21 +13,21 @@ use Rattle.std.specs.declared.option.Option.the-variants.{Some, None}
 use Rattle.std.proofs.shelf.Lists.{getD-set-same, getD-set-other, getD-replicate, length-append}
 use Rattle.std.proofs.shelf.Tests.{le-leb, lt-leb, le-ltb, lt-ltb, eq-eqb, ne-eqb, or-left, or-right, or-from, cond-true, cond-false, cases-eq, not-from-true, not-false, both-ways}
 use Rattle.fabric.specs.Layouts.{Plan, Lawful}
-use Rattle.calls.specs.declared.tables.Tables.{Tables}
-use Rattle.calls.specs.declared.ticket.Ticket.{Ticket}
-use Rattle.calls.specs.declared.waits.Waits.{Waits}
+use Rattle.fabric.specs.Verdicts.{Verdict}
+use Rattle.fabric.specs.Verdicts.Verdict.{granted, refused}
+use Rattle.bounds.specs.declared.settings.Settings.{Settings}
+use Rattle.bounds.specs.SetUp.{all-tickets}
 use Rattle.network.specs.Log.{Log, Packet, packet, size, word, aim, free, sent, received, waiting}
 use Rattle.network.specs.Log.Happening.{offered}
 use Rattle.network.specs.Cycle.{Fabric, State}
-use Rattle.bounds.specs.declared.settings.Settings.{Settings}
-use Rattle.bounds.specs.SetUp.{all-tickets}
-use Rattle.fabric.specs.Verdicts.{Verdict}
 use Rattle.network.specs.Runs.{ticket, missing, offer-verdict, with-log}
-use Rattle.network.specs.Computed.{decided}
 use Rattle.network.specs.Runs.Call.{offer}
 use Rattle.network.specs.Runs.Outcome.{offering}
-use Rattle.fabric.specs.Verdicts.Verdict.{granted, refused}
+use Rattle.network.specs.Computed.{decided}
 use Rattle.network.proofs.Invariant.{Each, Distinct, each-map, Waits as Waiting, Inv}
+use Rattle.calls.specs.declared.tables.Tables.{Tables}
+use Rattle.calls.specs.declared.ticket.Ticket.{Ticket}
+use Rattle.calls.specs.declared.waits.Waits.{Waits}
 use Rattle.calls.specs.Records.{no-ticket, no-waits, Accepts}
 use Rattle.calls.specs.Follow.{Shows, Recorded, Records, Lined}
 use Rattle.calls.proofs.Promising.{Works}

@@ -15,29 +15,28 @@ use Rattle.fabric.specs.declared.parts.Slot.{Slot}
 use Rattle.fabric.specs.declared.parts.Flit.{Flit}
 use Rattle.fabric.specs.Layouts.{Lawful}
 use Rattle.fabric.specs.Ports.{place-of}
-use Rattle.switch.specs.Switches.{at, turned}
-use Rattle.network.specs.declared.event.Event.{Event}
-use Rattle.calls.specs.declared.ticket.Ticket.{Ticket}
-use Rattle.calls.specs.declared.waits.Waits.{Waits}
-use Rattle.calls.specs.declared.tables.Tables.{Tables}
-use Rattle.network.specs.Cycle.{Fabric, State, golden-in}
+use Rattle.fabric.specs.Verdicts.{Verdict, granting}
+use Rattle.fabric.specs.Verdicts.Verdict.{granted, refused}
+use Rattle.fabric.proofs.Following.{far-exists}
+use Rattle.line.specs.Queues.{Queue}
 use Rattle.bounds.specs.declared.settings.Settings.{Settings}
 use Rattle.bounds.specs.SetUp.{all-tickets}
 use Rattle.clock.specs.Draws.{register}
-use Rattle.network.specs.Computed.{handing, arriving, done, cycled, decided}
-use Rattle.line.specs.Queues.{Queue}
+use Rattle.network.specs.declared.event.Event.{Event}
+use Rattle.network.specs.Cycle.{Fabric, State, golden-in}
 use Rattle.network.specs.Runs.{Outcome, put-all, told, count-off, cycle-verdict}
-use Rattle.fabric.specs.Verdicts.{Verdict, granting}
 use Rattle.network.specs.Runs.Call.{cycle}
 use Rattle.network.specs.Runs.Outcome.{cycling}
-use Rattle.fabric.specs.Verdicts.Verdict.{granted, refused}
+use Rattle.network.specs.Computed.{leaving, arriving, done, cycled, decided}
+use Rattle.calls.specs.declared.ticket.Ticket.{Ticket}
+use Rattle.calls.specs.declared.waits.Waits.{Waits}
+use Rattle.calls.specs.declared.tables.Tables.{Tables}
 use Rattle.calls.specs.Records.{Advances}
 use Rattle.calls.specs.Steps.{far-place}
 use Rattle.calls.specs.Follow.{slot-of, Records, Queued, Shows}
-use Rattle.calls.proofs.Promising.{Works}
 use Rattle.calls.specs.Midway.{Reached, Midway, Node-works, Round}
+use Rattle.calls.proofs.Promising.{Works}
 use Rattle.calls.proofs.Putting.{put-length}
-use Rattle.fabric.proofs.Following.{far-exists}
 use Rattle.calls.proofs.Working.{told-few}
 
 module _ (F : Fabric) (i : Tables) where
@@ -82,12 +81,13 @@ module _ (F : Fabric) (i : Tables) where
 
   -- what arrived in each slot
   all-arrived : Lawful (F .plan) → (s : State) (arrived : List (Option Flit)) →
-      ((m : ℕ) (p : Port) → m < F .plan .nodes → getD arrived (far-place (F .plan) m p) None ≡ at (turned (F .turn (handing F P s m)) (handing F P s m .places)) p) →
+      ((m : ℕ) (p : Port) → m < F .plan .nodes → getD arrived (far-place (F .plan) m p) None ≡ leaving F P s m p) →
       (n : ℕ) (q : Port) → n < F .plan .nodes → slot-of arrived n q ≡ arriving F P s n q
   unfolding arriving
   all-arrived law s arrived h n q l =
       ap (λ (x : Slot). getD arrived (4 * x .node + place-of (x .port)) None) (sym (law .back n q l))
       ∙ h (F .plan .far n q .node) (F .plan .far n q .port) (far-exists (F .plan) law n q l)
+      ∙ sym (cond-true _ _ _ (lt-ltb n (F .plan .nodes) l))
 
   module _ (law : Lawful (F .plan)) (q : Queue Event) where
     -- what a cycle answers by its verdict

@@ -3,12 +3,12 @@ use Prim.Native.Nat.{ℕ, _+_, _*_, _<_, _≤_}
 use mathlib.Core.Path.{_≡_, refl, sym, ap, subst, _∙_}
 use mathlib.Core.Logic.{_⊎_, inl, inr}
 use mathlib.Core.List.{List}
+use mathlib.Core.Bool.{true, false}
 use native.Mathlib.Omega.{arith}
 use native.Mathlib.Numerals.{add-one}
 use lib.ListN.{getD, set, length}
 use Rattle.std.specs.declared.option.Option.{Option}
 use Rattle.std.specs.declared.option.Option.the-variants.{Some, None}
-use mathlib.Core.Bool.{true, false}
 use Rattle.std.specs.Options.{isSome}
 use Rattle.std.proofs.shelf.Lists.{getD-set-same, getD-set-other}
 use Rattle.std.proofs.shelf.Tests.{cases-eq, both-ways}
@@ -19,8 +19,8 @@ use Rattle.fabric.specs.declared.parts.Flit.{Flit}
 use Rattle.fabric.specs.Layouts.{Plan, Lawful}
 use Rattle.fabric.specs.Ports.{place-of}
 use Rattle.switch.specs.Switches.{at}
-use Rattle.network.specs.Computed.{due, better, best, gap, or-else, if-empty}
 use Rattle.network.specs.Runs.{port-of}
+use Rattle.network.specs.Computed.{due, better, best, gap, or-else, if-empty}
 use Rattle.calls.specs.Steps.{far-place, best-upto, Spread, Spread-upto}
 use Rattle.calls.proofs.Looking.{place-of-port}
 use Rattle.calls.proofs.Setting.{place-below}

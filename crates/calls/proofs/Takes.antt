@@ -15,25 +15,25 @@ use Rattle.fabric.specs.declared.parts.Flit.{Flit}
 use Rattle.fabric.specs.Layouts.{Lawful}
 use Rattle.fabric.specs.Ports.{place-of}
 use Rattle.switch.specs.Switches.{at}
+use Rattle.line.specs.Queues.{Queue, put}
+use Rattle.bounds.specs.declared.settings.Settings.{Settings}
+use Rattle.bounds.specs.SetUp.{all-tickets}
 use Rattle.network.specs.declared.event.Event.{Event}
 use Rattle.network.specs.declared.event.Kind.the-variants.{Out}
-use Rattle.calls.specs.declared.ticket.Ticket.{Ticket}
-use Rattle.calls.specs.declared.waits.Waits.{Waits}
-use Rattle.calls.specs.declared.tables.Tables.{Tables}
 use Rattle.network.specs.Log.{Log, size, sent, received}
 use Rattle.network.specs.Log.Happening.{off}
 use Rattle.network.specs.Cycle.{Fabric, State, golden-in, off-at, in-slot-order}
-use Rattle.bounds.specs.declared.settings.Settings.{Settings}
-use Rattle.bounds.specs.SetUp.{all-tickets}
-use Rattle.network.specs.Computed.{due, best, same-port, without, taken, left}
-use Rattle.line.specs.Queues.{Queue, put}
 use Rattle.network.specs.Runs.{put-all, told, count-off}
+use Rattle.network.specs.Computed.{due, best, same-port, without, taken, left}
 use Rattle.network.proofs.Invariant.{Inv, Sits, Opened}
-use Rattle.calls.specs.Telling.{event-of}
+use Rattle.network.proofs.Nodes.{taken-here}
+use Rattle.calls.specs.declared.ticket.Ticket.{Ticket}
+use Rattle.calls.specs.declared.waits.Waits.{Waits}
+use Rattle.calls.specs.declared.tables.Tables.{Tables}
 use Rattle.calls.specs.Records.{Keeps, Receives, Takes-in}
+use Rattle.calls.specs.Telling.{event-of}
 use Rattle.calls.specs.Follow.{slot-of, Recorded, Records, Queued}
 use Rattle.calls.specs.Midway.{Reached, Between, Took}
-use Rattle.network.proofs.Nodes.{taken-here}
 use Rattle.calls.proofs.Setting.{ticket-below}
 use Rattle.calls.proofs.Showing.{like, change, invariant}
 

@@ -16,25 +16,25 @@ use Rattle.fabric.specs.declared.parts.Port.{Port}
 use Rattle.fabric.specs.declared.parts.Flit.{Flit}
 use Rattle.fabric.specs.Layouts.{Lawful}
 use Rattle.switch.specs.Switches.{Handing, at, turned}
-use Rattle.network.specs.declared.event.Event.{Event}
-use Rattle.calls.specs.declared.ticket.Ticket.{Ticket}
-use Rattle.calls.specs.declared.waits.Waits.{Waits}
-use Rattle.calls.specs.declared.tables.Tables.{Tables}
-use Rattle.network.specs.Log.{Log, sent}
-use Rattle.network.specs.Log.Happening.{offered, entered, off, collected}
-use Rattle.network.specs.Cycle.{Fabric, State, golden-in, wish-of, off-at, entered-at, in-slot-order}
+use Rattle.line.specs.Queues.{Queue}
 use Rattle.bounds.specs.declared.settings.Settings.{Settings}
 use Rattle.bounds.specs.SetUp.{all-tickets}
 use Rattle.clock.specs.Draws.{register, shifted, draw-bits}
-use Rattle.network.specs.Computed.{taken, left, entering, ready, handing, done}
-use Rattle.line.specs.Queues.{Queue}
+use Rattle.network.specs.declared.event.Event.{Event}
+use Rattle.network.specs.Log.{Log, sent}
+use Rattle.network.specs.Log.Happening.{offered, entered, off, collected}
+use Rattle.network.specs.Cycle.{Fabric, State, golden-in, wish-of, off-at, entered-at, in-slot-order}
 use Rattle.network.specs.Runs.{put-all, told, count-off}
+use Rattle.network.specs.Computed.{taken, left, entering, ready, handing, leaving, done}
 use Rattle.network.proofs.Invariant.{Inv}
+use Rattle.network.proofs.Cycling.{off-packet, off-waiting, off-sent, keeps-packet, keeps-waiting, keeps-sent, grown, half-log, grown-more}
+use Rattle.calls.specs.declared.ticket.Ticket.{Ticket}
+use Rattle.calls.specs.declared.waits.Waits.{Waits}
+use Rattle.calls.specs.declared.tables.Tables.{Tables}
 use Rattle.calls.specs.Records.{Draws}
 use Rattle.calls.specs.Steps.{wished, far-place, Spread}
 use Rattle.calls.specs.Follow.{slot-of, Records, Queued}
 use Rattle.calls.specs.Midway.{Reached, Between, Took, Takes-off, Own, Let, Enters, Node-works}
-use Rattle.network.proofs.Cycling.{off-packet, off-waiting, off-sent, keeps-packet, keeps-waiting, keeps-sent, grown, half-log, grown-more}
 use Rattle.calls.proofs.Putting.{put-length, put-more}
 use Rattle.calls.proofs.Stepping.{far-same}
 use Rattle.calls.proofs.Showing.{invariant}
@@ -120,7 +120,7 @@ module _ (F : Fabric) (P : Settings) (s : State) where
       record {
         line = off-waiting F P s n n (taken F P s n) (grown F P s n) ∙ keeps-waiting F P s n n (omega arith);
         packets = λ t. off-packet F P s t n (taken F P s n) (grown F P s n) ∙ keeps-packet F P s n t;
-        sent = λ t e. off-sent F P s t n (taken F P s n) (grown F P s n) ∙ keeps-sent F P s inv n t (omega arith);
+        flits = λ t e. off-sent F P s t n (taken F P s n) (grown F P s n) ∙ keeps-sent F P s inv n t (omega arith);
       }
 
   -- what the code hands to the switch
@@ -139,12 +139,12 @@ module _ (F : Fabric) (P : Settings) (s : State) where
       λ k. record { places = ep k; wishes = w k; golden = eg k; draws = d k }
 
 module _ (F : Fabric) (law : Lawful (F .plan)) (i i₁ i₂ i₃ : Tables) (n g : ℕ) (hn : n < F .plan .nodes) (before after : List (Option Flit)) (u u₁ u₂ : Queue Event) (off : ℕ)
-    (left-places places leaving : List (Option Flit)) (wishes : List (Option Port)) (ds : List Bool)
+    (left-places places routed : List (Option Flit)) (wishes : List (Option Port)) (ds : List Bool)
     (takes : Takes-off i i₁ n g u u₁ left-places off) (enters : Enters i₁ i₂ n u₁ u₂ left-places places)
     (drew : Draws i₂ i₃ ds)
     (wish : wishes ≡ in-slot-order (λ p. wished (F .plan) n (at places p)))
-    (route : leaving ≡ turned (F .turn (record { places = places; wishes = wishes; golden = g; draws = ds })) places)
-    (spread : Spread (F .plan) n leaving before after) where
+    (route : routed ≡ turned (F .turn (record { places = places; wishes = wishes; golden = g; draws = ds })) places)
+    (spread : Spread (F .plan) n routed before after) where
   abbrev P : Settings
   P = i .settings
 
@@ -177,14 +177,14 @@ module _ (F : Fabric) (law : Lawful (F .plan)) (i i₁ i₂ i₃ : Tables) (n g 
             let e1 : suc (s .cycles * F .plan .nodes + n) ≡ s .cycles * F .plan .nodes + n + 1 = omega arith in
             let e2 : suc (s .cycles * F .plan .nodes + n) ≡ s .cycles * F .plan .nodes + (n + 1) = omega arith in
             let handed-is = handed F P s n g (i₃ .register) places wishes ds gold (let-in .gives) wish (drawn ∙ ap (register (P .seed)) e1) (drew .bits) in
-            let leaves : leaving ≡ turned (F .turn (handing F P s n)) (handing F P s n .places) =
+            let leaves : routed ≡ turned (F .turn (handing F P s n)) (handing F P s n .places) =
             route ∙ ap (λ (h : Handing). turned (F .turn h) (h .places)) handed-is in
             let log-is : entered-at n (entering F P s n) ++ half-log F P s n ≡ grown F P s (n + 1) = sym (ap (grown F P s) (add-one n) ∙ grown-more F P s n) in
             let sent-now : (k : ℕ) (p : Port) → k < n + 1 → (k ≡ n) ⊎ (k ≡ n → ⊥) →
-            getD after (far-place (F .plan) k p) None ≡ at (turned (F .turn (handing F P s k)) (handing F P s k .places)) p =
+            getD after (far-place (F .plan) k p) None ≡ leaving F P s k p =
             λ k p h. elim [
               | inl e ↦
-                  subst (λ (x : ℕ). getD after (far-place (F .plan) x p) None ≡ at (turned (F .turn (handing F P s x)) (handing F P s x .places)) p) (sym e)
+                  subst (λ (x : ℕ). getD after (far-place (F .plan) x p) None ≡ leaving F P s x p) (sym e)
                   (spread .sent p ∙ ap (λ xs. at xs p) leaves)
               | inr d ↦
                   let lt : k < n = omega arith in

@@ -8,17 +8,16 @@ use Rattle.std.specs.declared.option.Option.the-variants.{None}
 use Rattle.fabric.specs.declared.parts.Port.{Port}
 use Rattle.fabric.specs.declared.parts.Flit.{Flit}
 use Rattle.fabric.specs.Layouts.{Lawful}
-use Rattle.switch.specs.Switches.{at, turned}
-use Rattle.network.specs.declared.event.Event.{Event}
-use Rattle.calls.specs.declared.tables.Tables.{Tables}
-use Rattle.network.specs.Log.{Log, packet, sent, waiting}
-use Rattle.network.specs.Cycle.{Fabric, State, golden-in, off-at, entered-at, in-slot-order}
+use Rattle.line.specs.Queues.{Queue}
 use Rattle.bounds.specs.declared.settings.Settings.{Settings}
 use Rattle.bounds.specs.SetUp.{all-tickets}
 use Rattle.clock.specs.Draws.{register}
-use Rattle.network.specs.Computed.{taken, left, entering, ready, handing, done}
-use Rattle.line.specs.Queues.{Queue}
+use Rattle.network.specs.declared.event.Event.{Event}
+use Rattle.network.specs.Log.{Log, packet, sent, waiting}
+use Rattle.network.specs.Cycle.{Fabric, State, golden-in, off-at, entered-at, in-slot-order}
 use Rattle.network.specs.Runs.{Call, Leads, put-all, told, count-off}
+use Rattle.network.specs.Computed.{taken, left, entering, ready, leaving, done}
+use Rattle.calls.specs.declared.tables.Tables.{Tables}
 use Rattle.calls.specs.Records.{Keeps}
 use Rattle.calls.specs.Steps.{far-place}
 use Rattle.calls.specs.Follow.{slot-of, Records, Queued, Shows}
@@ -34,7 +33,7 @@ pub record Between (F : Fabric) (s : State) (l : Log) (i : Tables) : Type 0 wher
   pub records : Records (all-tickets (F .plan) (i .settings)) (i .tickets) l
   pub queued : Queued (F .plan .nodes) (i .settings .tickets) (i .waits) l
 
--- step 1, at a node
+-- a node takes off: the tables then show the log with that, and its event is put into the line
 pub record Took (F : Fabric) (P : Settings) (s : State) (n : ℕ) (l : Log) (j : Tables) (q r : Queue Event) (places : List (Option Flit)) (off : ℕ) : Type 0 where
   pub shows : Between F s (off-at (s .cycles) n (taken F P s n) ++ l) j
   pub gives : places ≡ in-slot-order (left F P s n)
@@ -47,12 +46,13 @@ pub record Takes-off (i j : Tables) (n g : ℕ) (q r : Queue Event) (places : Li
   pub took : (F : Fabric) (s : State) (l : Log) → Lawful (F .plan) → Reached F (i .settings) s → n < F .plan .nodes → g ≡ golden-in F (i .settings) (s .cycles) →
       Between F s l i → q .held < length (q .memory) → Took F (i .settings) s n l j q r places off
 
--- step 2, at a node: a log that says of the node's own tickets what the state's log says
+-- a log that says of the node's own tickets what the state's log says
 pub record Own (P : Settings) (s : State) (n : ℕ) (l : Log) : Type 0 where
   pub line : waiting (P .tickets) n l ≡ waiting (P .tickets) n (s .log)
   pub packets : (t : ℕ) → packet t l ≡ packet t (s .log)
-  pub sent : (t : ℕ) → t / P .tickets ≡ n → Rattle.network.specs.Log.sent t l ≡ Rattle.network.specs.Log.sent t (s .log)
+  pub flits : (t : ℕ) → t / P .tickets ≡ n → sent t l ≡ sent t (s .log)
 
+-- a node lets in
 pub record Let (F : Fabric) (P : Settings) (s : State) (n : ℕ) (l : Log) (j : Tables) (q r : Queue Event) (places : List (Option Flit)) : Type 0 where
   pub shows : Between F s (entered-at n (entering F P s n) ++ l) j
   pub gives : places ≡ in-slot-order (ready F P s n)
@@ -68,7 +68,7 @@ pub record Midway (F : Fabric) (P : Settings) (s : State) (n : ℕ) (i : Tables)
   pub settings : i .settings ≡ P
   pub shows : Between F s (done F P s n ++ s .log) i
   pub drawn : i .register ≡ register (P .seed) (s .cycles * F .plan .nodes + n)
-  pub sent : (m : ℕ) (p : Port) → m < n → getD arrived (far-place (F .plan) m p) None ≡ at (turned (F .turn (handing F P s m)) (handing F P s m .places)) p
+  pub sent : (m : ℕ) (p : Port) → m < n → getD arrived (far-place (F .plan) m p) None ≡ leaving F P s m p
   pub line : r ≡ put-all q (told (done F P s n))
   pub count : off ≡ count-off (done F P s n)
 

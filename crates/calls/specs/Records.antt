@@ -9,11 +9,11 @@ use Rattle.std.specs.declared.option.Option.{Option}
 use Rattle.std.specs.declared.option.Option.the-variants.{Some, None}
 use Rattle.fabric.specs.declared.parts.Flit.{Flit}
 use Rattle.bounds.specs.declared.settings.Settings.{Settings}
+use Rattle.clock.specs.Draws.{shifted, draw-bits}
+use Rattle.network.specs.Log.{has, value}
 use Rattle.calls.specs.declared.ticket.Ticket.{Ticket}
 use Rattle.calls.specs.declared.waits.Waits.{Waits}
 use Rattle.calls.specs.declared.tables.Tables.{Tables}
-use Rattle.clock.specs.Draws.{shifted, draw-bits}
-use Rattle.network.specs.Log.{has, value}
 
 abbrev pub blank : Ticket
 blank = record { busy = false; destination = 0; size = 0; sent = 0; words = replicate 4 0; received = replicate 4 None }

@@ -1,6 +1,6 @@
 use mathlib.Core.Path.{refl, _∙_}
-use Rattle.network.specs.Cycle.{Fabric}
 use Rattle.line.specs.Lines.{queue-of}
+use Rattle.network.specs.Cycle.{Fabric}
 use Rattle.calls.proofs.Working.{node-works}
 use Rattle.calls.proofs.calls.Network.work.Needs as need
 

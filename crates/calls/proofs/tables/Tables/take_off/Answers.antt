@@ -7,8 +7,8 @@ use Rattle.std.specs.declared.option.Option.the-variants.{None}
 use Rattle.fabric.specs.declared.parts.Flit.{Flit}
 use Rattle.fabric.specs.Ports.{place-of}
 use Rattle.switch.specs.Switches.{at}
-use Rattle.network.specs.Computed.{best, due}
 use Rattle.line.specs.Lines.{queue-of}
+use Rattle.network.specs.Computed.{best, due}
 use Rattle.calls.specs.Midway.{Took}
 use Rattle.calls.proofs.Takes.{took-none, took-some, same-best}
 use Rattle.calls.proofs.tables.Tables.take_off.Needs as need
