@@ -88,7 +88,7 @@ module _ (F : Fabric) (P : Settings) where
     abbrev collect-leads : ℕ → ℕ → ℕ → Verdict ℕ → State
     collect-leads r n o v = decided v (with-log F P s (collected (ticket F P n o) r (collection F P s (ticket F P n o)))) s
 
-    served : (k : Call) → Serves F P s k (outcome F P s k) (next F P s k)
+    pub served : (k : Call) → Serves F P s k (outcome F P s k) (next F P s k)
     served (offer n o d ws) = go (offer-verdict F P s n o d ws) refl
       where
         go : (v : Verdict (Unit {0})) → offer-verdict F P s n o d ws ≡ v → Serves F P s (offer n o d ws) (offering v) (offer-leads n o d ws v)

@@ -19,7 +19,7 @@ use Rattle.network.specs.Runs.{Call, Outcome}
 use Rattle.network.specs.Runs.Call.{offer, cycle, collect}
 use Rattle.network.specs.Runs.Outcome.{offering, cycling, collecting, looking}
 use Rattle.network.specs.Computed.{taken, left, entering, ready, handing, arriving, done, outcome, after}
-use Rattle.network.proofs.Solving.{served, clear-after}
+use Rattle.network.proofs.Solving.{served}
 use Rattle.calls.specs.declared.calls.Network.{Network}
 use Rattle.calls.specs.declared.tables.Tables.{Tables}
 use Rattle.calls.specs.Follow.{Promised, Served, Answers, Exactly, Begins}
@@ -44,7 +44,7 @@ outcomes (k ∷ ks) = outcome net small (after net small ks) k ∷ outcomes ks
 
 computed : (ks : List Call) → Answers net small ks (outcomes ks) (after net small ks)
 computed [] = set-up
-computed (k ∷ ks) = a-call (computed ks) (served net small law (after net small ks) (clear-after net small law ks) k)
+computed (k ∷ ks) = a-call (computed ks) (served net small law (after net small ks) k)
 
 -- the outcomes of calls each of which kept its promise
 the-outcomes : (i j : Tables) → Begins net small i → (ks : List Call) (os : List Outcome) → Served net i ks os j → os ≡ outcomes ks
