@@ -38,6 +38,7 @@ small = record { tickets = 1; words = 2; epoch = 4; seed = 1 }
 law : Lawful (mesh-plan 2 1)
 law = mesh-lawful 2 1 (omega arith, omega arith, omega arith)
 
+-- what a run is answered, by computing
 abbrev outcomes : List Call → List Outcome
 outcomes [] = []
 outcomes (k ∷ ks) = outcome net small (after net small ks) k ∷ outcomes ks
@@ -66,6 +67,7 @@ line-in (cycling v q ∷ os) = q
 line-in (collecting v m ∷ os) = line-0
 line-in (looking v ∷ os) = line-0
 
+-- the answer to a collection, and the caller's memory after it
 abbrev brought : List Outcome → Verdict ℕ × List ℕ
 brought [] = (granted 0, [])
 brought (offering v ∷ os) = (granted 0, [])
@@ -73,7 +75,7 @@ brought (cycling v q ∷ os) = (granted 0, [])
 brought (collecting v m ∷ os) = (v, m)
 brought (looking v ∷ os) = (granted 0, [])
 
--- an offer, three cycles and a collection, the newest first
+-- an offer and the cycles after it, the newest first
 module _ (k : Call) where
   abbrev run-1 : List Call
   run-1 = cycle line-0 ∷ k ∷ []
@@ -84,13 +86,17 @@ module _ (k : Call) where
   abbrev run-3 : List Call
   run-3 = cycle (line-in (outcomes run-2)) ∷ run-2
 
+abbrev pub words : Verdict ℕ × List ℕ
+words = (granted 2, 7 ∷ 9 ∷ [])
+
+-- an offer k and a collection h, with the cycles between them, bring the words by computing
 abbrev pub Brings : Call → Call → Type 0
-Brings k h = _≡_ {A = Verdict ℕ × List ℕ} (brought (outcomes (h ∷ run-3 k))) (granted 2, 7 ∷ 9 ∷ [])
+Brings k h = brought (outcomes (h ∷ run-3 k)) ≡ words
 
 brings-so : (i a b c d j : Tables) (k h : Call) (q r s t : Queue Event) (o : Outcome) (v w x y : Verdict ℕ) (m : List ℕ) →
     Begins net small i → q ≡ line-0 → Promised net i a k o →
     Promised net a b (cycle q) (cycling v r) → Promised net b c (cycle r) (cycling w s) → Promised net c d (cycle s) (cycling x t) →
-    Promised net d j h (collecting y m) → Brings k h → _≡_ {A = Verdict ℕ × List ℕ} (y, m) (granted 2, 7 ∷ 9 ∷ [])
+    Promised net d j h (collecting y m) → Brings k h → (y, m) ≡ words
 brings-so i a b c d j k h q r s t o v w x y m set e offers one two three collects last =
     let done-1 : Served net i (run-1 k) (cycling v r ∷ o ∷ []) b =
     served-more (served-more begun offers) (subst (λ (z : Queue Event). Promised net a b (cycle z) (cycling v r)) e one) in
@@ -102,6 +108,7 @@ brings-so i a b c d j k h q r s t o v w x y m set e offers one two three collect
     served-more done-2 (subst (λ (z : Queue Event). Promised net c d (cycle z) (cycling x t)) e-2 three) in
     ap brought (the-outcomes i j set (h ∷ run-3 k) _ (served-more done-3 collects)) ∙ last
 
+-- the plan of a layout that was granted
 abbrev plan-in : Verdict Plan → Plan
 plan-in (granted p) = p
 plan-in (refused k vs) = mesh-plan 2 1
@@ -120,7 +127,7 @@ module _ {C : Type 0} where
       granted (mesh-plan (mesh .width) (mesh .height)) ≡ granted (mesh-plan 2 1) → z .layout ≡ mesh →
       Begins (over (plan-of z)) small (n .inner) → n .layout ≡ z .layout → q ≡ line-0 →
       Moves n a k o → Moves a b (cycle q) (cycling v r) → Moves b c (cycle r) (cycling w s) → Moves c d (cycle s) (cycling x t) →
-      Moves d j h (collecting y m) → Brings k h → _≡_ {A = Verdict ℕ × List ℕ} (y, m) (granted 2, 7 ∷ 9 ∷ [])
+      Moves d j h (collecting y m) → Brings k h → (y, m) ≡ words
   brings mesh z n a b c d j {k} {h} {q} {r} {s} {t} {o} {v} {w} {x} {y} {m} two-nodes its set same l offers one two three collects last =
       let at-a : a .layout ≡ z .layout = offers .layout ∙ same in
       let at-b : b .layout ≡ z .layout = one .layout ∙ at-a in
