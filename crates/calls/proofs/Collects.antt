@@ -1,6 +1,6 @@
 -- What a collection does.
-use Prim.Native.Nat.{ℕ, _+_, _*_, _<_, _≤_}
-use mathlib.Core.Path.{_≡_, refl, sym, ap, subst, subst₂, _∙_}
+use Prim.Native.Nat.{ℕ, _+_, _<_, _≤_}
+use mathlib.Core.Path.{_≡_, refl, sym, ap, subst, _∙_}
 use mathlib.Core.Logic.{_⊎_, inl, inr}
 use mathlib.Core.List.{List, [], _∷_, _++_}
 use mathlib.Core.Bool.{Bool, true, false, not, cond, _||_, _&&_}
@@ -10,28 +10,27 @@ use lib.Dec.{eqb, leb}
 use lib.ListN.{length, getD}
 use Rattle.std.specs.declared.option.Option.{Option}
 use Rattle.std.specs.declared.option.Option.the-variants.{None}
-use Rattle.std.proofs.shelf.Lists.{getD-set-same, getD-set-other}
-use Rattle.std.proofs.shelf.Tests.{le-leb, lt-leb, le-ltb, lt-ltb, eq-eqb, ne-eqb, or-left, or-right, or-from, cond-true, cond-false, cases-eq, not-from-true, not-from-false}
+use Rattle.std.proofs.shelf.Tests.{le-leb, lt-leb, le-ltb, lt-ltb, eq-eqb, ne-eqb, or-left, or-right, or-from, cond-true, cond-false, not-from-true, not-from-false}
 use Rattle.fabric.specs.Layouts.{Lawful}
-use Rattle.calls.specs.declared.tables.Tables.{Tables}
-use Rattle.calls.specs.declared.ticket.Ticket.{Ticket}
-use Rattle.network.specs.Log.{Log, packet, size, aim, free, sent, received, waiting, has, value, filled, complete, gathered}
-use Rattle.network.specs.Log.Happening.{collected}
-use Rattle.network.specs.Cycle.{Fabric, State}
+use Rattle.fabric.specs.Verdicts.{Verdict}
+use Rattle.fabric.specs.Verdicts.Verdict.{granted, refused}
 use Rattle.bounds.specs.declared.settings.Settings.{Settings}
 use Rattle.bounds.specs.SetUp.{all-tickets}
-use Rattle.clock.specs.Draws.{register}
-use Rattle.fabric.specs.Verdicts.{Verdict}
+use Rattle.network.specs.Log.{Log, packet, size, aim, free, sent, received, has, value, filled, complete, gathered}
+use Rattle.network.specs.Log.Happening.{collected}
+use Rattle.network.specs.Cycle.{Fabric, State}
 use Rattle.network.specs.Runs.{ticket, missing, collect-verdict, with-log, over}
-use Rattle.network.specs.Computed.{decided}
 use Rattle.network.specs.Runs.Call.{collect}
 use Rattle.network.specs.Runs.Outcome.{collecting}
-use Rattle.fabric.specs.Verdicts.Verdict.{granted, refused}
+use Rattle.network.specs.Computed.{decided}
+use Rattle.calls.specs.declared.tables.Tables.{Tables}
+use Rattle.calls.specs.declared.ticket.Ticket.{Ticket}
+use Rattle.calls.specs.declared.waits.Waits.{Waits}
 use Rattle.calls.specs.Records.{no-ticket, all-in, values, Frees}
-use Rattle.calls.specs.Follow.{Shows, Recorded, Lined}
+use Rattle.calls.specs.Follow.{Shows, Recorded, Records, Queued}
 use Rattle.calls.proofs.Promising.{Works}
 use Rattle.calls.proofs.Setting.{ticket-below}
-use Rattle.calls.proofs.Offers.{like}
+use Rattle.calls.proofs.Showing.{like, change, logged}
 
 -- what a record says of its packet is what the log says
 all-filled : (xs : List (Option ℕ)) (t : ℕ) (l : Log) → ((k : ℕ) → k < 4 → getD xs k None ≡ received t k l) → (m : ℕ) → m ≤ 4 → all-in xs m ≡ filled t m l
@@ -69,7 +68,7 @@ module _ (F : Fabric) (i : Tables) (r n o : ℕ) (memory : List ℕ) where
   refuses : (k : ℕ) → ((s : State) → Shows F i s → collect-verdict F P s r n o memory ≡ refused k []) → Works F i i (collect r n o memory) (collecting (refused k []) memory)
   refuses k h =
       record {
-        does = λ s ok inv sh.
+        does = λ s led sh.
             let e = h s sh in
             record {
               exact = ap (λ (v : Verdict ℕ). collecting v (decided v (over (gathered t (size (packet t (s .log))) (s .log)) memory) memory)) (sym e);
@@ -130,40 +129,30 @@ module _ (F : Fabric) (i : Tables) (r n o : ℕ) (memory : List ℕ) where
               received = λ k q. ap (λ xs. getD xs k None) (f .received) ∙ h .received k q;
             }
 
-        records : (s : State) → Shows F i s → (ws : List ℕ) (u : ℕ) → u < all-tickets (F .plan) P → Recorded (getD (j .tickets) u no-ticket) u (collected t r ws ∷ s .log)
-        records s sh ws u h = go (cases-eq u t)
-          where
-            go : (u ≡ t) ⊎ (u ≡ t → ⊥) → Recorded (getD (j .tickets) u no-ticket) u (collected t r ws ∷ s .log)
-            go (inl q) =
-                let below = ticket-below F law P (i .few) in
-                let e : getD (j .tickets) t no-ticket ≡ f .its = ap (λ xs. getD xs t no-ticket) (f .tickets) ∙ getD-set-same (i .tickets) t (f .its) no-ticket (let z = own in omega arith) in
-                subst (λ (v : ℕ). Recorded (getD (j .tickets) v no-ticket) v (collected t r ws ∷ s .log)) (sym q)
-                (subst (λ (x : Ticket). Recorded x t (collected t r ws ∷ s .log)) (sym e) (freed (s .log) ws (sh .records t own)))
-            go (inr q) =
-                let e : getD (j .tickets) u no-ticket ≡ getD (i .tickets) u no-ticket = ap (λ xs. getD xs u no-ticket) (f .tickets) ∙ getD-set-other (i .tickets) t u (f .its) no-ticket q in
-                subst (λ (x : Ticket). Recorded x u (collected t r ws ∷ s .log)) (sym e)
-                (like _ u (s .log) (collected t r ws ∷ s .log) (cond-false _ _ _ (ne-eqb u t q)) refl refl (λ k. refl) (sh .records u h))
+        records : (s : State) → Shows F i s → (ws : List ℕ) → Records (all-tickets (F .plan) P) (j .tickets) (collected t r ws ∷ s .log)
+        records s sh ws =
+            let below = ticket-below F law P (i .few) in
+            let mine = own in
+            let then-log : Log = collected t r ws ∷ s .log in
+            subst (λ (xs : List Ticket). Records (all-tickets (F .plan) P) xs then-log) (sym (f .tickets))
+            (change (all-tickets (F .plan) P) t (i .tickets) (f .its) (s .log) then-log (omega arith) (sh .records) (freed (s .log) ws)
+            (λ u d. like _ u (s .log) then-log (cond-false _ _ _ (ne-eqb u t d)) refl refl (λ k. refl)))
 
         exactly : (after : List ℕ) → (its .size ≤ 4 → after ≡ over (values (its .received) (its .size)) memory) →
             Works F i j (collect r n o memory) (collecting (granted (its .size)) after)
         exactly after w =
             record {
-              does = λ s ok inv sh.
+              does = λ s led sh.
                   let e = verdict s sh in
                   let h = sh .records t own in
                   let ws = gathered t (size (packet t (s .log))) (s .log) in
-                  let shows : Shows F j (then s) = record {
-                    cycles = f .cycles ∙ sh .cycles;
-                    drawn = f .register ∙ sh .drawn ∙ ap (λ (Q : Settings). register (Q .seed) (s .cycles * F .plan .nodes)) (sym (f .settings));
-                    slots = λ m q k. ap (λ xs. getD xs (4 * m + Rattle.fabric.specs.Ports.place-of q) None) (f .slots) ∙ sh .slots m q k;
-                    records = subst (λ (Q : Settings). (u : ℕ) → u < all-tickets (F .plan) Q → Recorded (getD (j .tickets) u no-ticket) u (collected t r ws ∷ s .log)) (sym (f .settings)) (records s sh ws);
-                    queued = λ m k. subst₂ (λ (xs : List Rattle.calls.specs.declared.waits.Waits.Waits) (Q : Settings). Lined (getD xs m Rattle.calls.specs.Records.no-waits) (waiting (Q .tickets) m (s .log))) (sym (f .waits)) (sym (f .settings)) (sh .queued m k);
-                  } in
+                  let queued : Queued (F .plan .nodes) (P .tickets) (j .waits) (s .log) = subst (λ (xs : List Waits). Queued (F .plan .nodes) (P .tickets) xs (s .log)) (sym (f .waits)) (sh .queued) in
+                  let shows : Shows F j (then s) = logged F i j s (collected t r ws) (f .keeps) sh (records s sh ws) queued in
                   record {
                     exact =
                         ap (collecting (granted (its .size))) (w (h .short) ∙ ap (λ ys. over ys memory) (holds its t (s .log) h))
                         ∙ ap (λ (v : Verdict ℕ). collecting v (decided v (over ws memory) memory)) (sym e);
-                    same = f .settings;
+                    same = f .keeps .settings;
                     shows = subst (λ (v : Verdict ℕ). Shows F j (decided v (then s) s)) (sym e) shows;
                   };
             }

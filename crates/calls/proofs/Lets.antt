@@ -14,33 +14,36 @@ use Rattle.fabric.specs.declared.parts.Flit.{Flit}
 use Rattle.fabric.specs.Layouts.{Lawful}
 use Rattle.fabric.specs.Ports.{place-of}
 use Rattle.switch.specs.Switches.{at}
+use Rattle.line.specs.Queues.{Queue, put}
+use Rattle.bounds.specs.declared.settings.Settings.{Settings}
+use Rattle.bounds.specs.SetUp.{all-tickets}
 use Rattle.network.specs.declared.event.Event.{Event}
 use Rattle.network.specs.declared.event.Kind.the-variants.{In}
-use Rattle.calls.specs.declared.ticket.Ticket.{Ticket}
-use Rattle.calls.specs.declared.waits.Waits.{Waits}
-use Rattle.calls.specs.declared.tables.Tables.{Tables}
 use Rattle.network.specs.Log.{Log, packet, size, word, aim, sent, received, waiting}
 use Rattle.network.specs.Log.Happening.{entered}
 use Rattle.network.specs.Cycle.{Fabric, State, entered-at, in-slot-order}
-use Rattle.bounds.specs.declared.settings.Settings.{Settings}
-use Rattle.bounds.specs.SetUp.{all-tickets}
-use Rattle.network.specs.Computed.{gap, placed, next-of, with-flit, left, entering, ready}
-use Rattle.line.specs.Queues.{Queue, put}
 use Rattle.network.specs.Runs.{put-all, told}
+use Rattle.network.specs.Computed.{gap, placed, next-of, with-flit, left, entering, ready}
 use Rattle.network.proofs.Invariant.{Inv, Opened, Each, Waits as Waiting}
-use Rattle.calls.specs.Telling.{event-of}
-use Rattle.calls.specs.Records.{no-ticket, no-waits, line-of, Keeps, Lets-go, Lets-in}
-use Rattle.calls.specs.Follow.{Recorded, Lined, Records, Queued}
-use Rattle.calls.specs.Midway.{Between, Own, Let}
 use Rattle.network.proofs.Places.{some-none, some-same}
+use Rattle.calls.specs.declared.ticket.Ticket.{Ticket}
+use Rattle.calls.specs.declared.waits.Waits.{Waits}
+use Rattle.calls.specs.declared.tables.Tables.{Tables}
+use Rattle.calls.specs.Records.{no-ticket, no-waits, line-of, Keeps, Lets-go, Lets-in}
+use Rattle.calls.specs.Telling.{event-of}
+use Rattle.calls.specs.Follow.{Recorded, Lined, Records, Queued}
+use Rattle.calls.specs.Midway.{Reached, Between, Own, Let}
 use Rattle.calls.proofs.Setting.{ticket-below}
-use Rattle.calls.proofs.Offers.{like}
-use Rattle.calls.proofs.Takes.{at-ordered, set-ordered, between, change}
+use Rattle.calls.proofs.Showing.{like, change, invariant}
+use Rattle.calls.proofs.Takes.{at-ordered, set-ordered, between}
 
-module _ (F : Fabric) (i : Tables) (s : State) (l : Log) (n : ℕ) (law : Lawful (F .plan)) (inv : Inv F (i .settings) s 0) (h : n < F .plan .nodes)
+module _ (F : Fabric) (i : Tables) (s : State) (l : Log) (n : ℕ) (law : Lawful (F .plan)) (led : Reached F (i .settings) s) (h : n < F .plan .nodes)
     (own : Own (i .settings) s n l) (b : Between F s l i) (places : List (Option Flit)) (pl : places ≡ in-slot-order (left F (i .settings) s n)) where
   abbrev P : Settings
   P = i .settings
+
+  inv : Inv F P s 0
+  inv = invariant F P law s led
 
   abbrev T : ℕ
   T = i .settings .tickets
@@ -94,7 +97,7 @@ module _ (F : Fabric) (i : Tables) (s : State) (l : Log) (n : ℕ) (law : Lawful
       recorded = b .records t (opened .ticket)
 
       sent-is : r .sent ≡ sent t (s .log)
-      sent-is = recorded .sent ∙ own .sent t (waits .node)
+      sent-is = recorded .sent ∙ own .flits t (waits .node)
 
       small : r .sent < 4
       small = let a = waits .more in let c = opened .short in let d = i .short in let f = sent-is in omega arith

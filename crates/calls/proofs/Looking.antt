@@ -8,13 +8,13 @@ use lib.ListN.{getD}
 use Rattle.std.specs.declared.option.Option.the-variants.{None}
 use Rattle.std.proofs.shelf.Tests.{le-leb, lt-leb, or-left, or-right, or-from, cond-true, cond-false}
 use Rattle.fabric.specs.Ports.{place-of}
-use Rattle.calls.specs.declared.tables.Tables.{Tables}
-use Rattle.network.specs.Cycle.{Fabric, State}
 use Rattle.fabric.specs.Verdicts.{Verdict}
+use Rattle.fabric.specs.Verdicts.Verdict.{granted, refused}
+use Rattle.network.specs.Cycle.{Fabric, State}
 use Rattle.network.specs.Runs.{look-verdict, port-of}
 use Rattle.network.specs.Runs.Call.{look}
 use Rattle.network.specs.Runs.Outcome.{looking}
-use Rattle.fabric.specs.Verdicts.Verdict.{granted, refused}
+use Rattle.calls.specs.declared.tables.Tables.{Tables}
 use Rattle.calls.specs.Follow.{Shows}
 use Rattle.calls.proofs.Promising.{Works}
 
@@ -27,7 +27,7 @@ place-of-port (ℕ.suc (ℕ.suc (ℕ.suc (ℕ.suc k)))) h = absurd (omega arith)
 
 module _ (F : Fabric) (i : Tables) (n k : ℕ) where
   looked : (v : Verdict _) → ((s : State) → Shows F i s → v ≡ look-verdict F (i .settings) s n k) → Works F i i (look n k) (looking v)
-  looked v h = record { does = λ s ok inv sh. record { exact = ap looking (h s sh); same = refl; shows = sh } }
+  looked v h = record { does = λ s led sh. record { exact = ap looking (h s sh); same = refl; shows = sh } }
 
   pub no-look : (F .plan .nodes ≤ n) ⊎ (4 ≤ k) → Works F i i (look n k) (looking (refused 4 []))
   no-look (inl h) = looked _ (λ s sh. sym (cond-true _ _ _ (or-left _ _ (le-leb (F .plan .nodes) n h))))

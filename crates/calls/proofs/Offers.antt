@@ -13,41 +13,27 @@ use Rattle.std.specs.declared.option.Option.the-variants.{Some, None}
 use Rattle.std.proofs.shelf.Lists.{getD-set-same, getD-set-other, getD-replicate, length-append}
 use Rattle.std.proofs.shelf.Tests.{le-leb, lt-leb, le-ltb, lt-ltb, eq-eqb, ne-eqb, or-left, or-right, or-from, cond-true, cond-false, cases-eq, not-from-true, not-false, both-ways}
 use Rattle.fabric.specs.Layouts.{Plan, Lawful}
-use Rattle.calls.specs.declared.tables.Tables.{Tables}
-use Rattle.calls.specs.declared.ticket.Ticket.{Ticket}
-use Rattle.calls.specs.declared.waits.Waits.{Waits}
+use Rattle.fabric.specs.Verdicts.{Verdict}
+use Rattle.fabric.specs.Verdicts.Verdict.{granted, refused}
+use Rattle.bounds.specs.declared.settings.Settings.{Settings}
+use Rattle.bounds.specs.SetUp.{all-tickets}
 use Rattle.network.specs.Log.{Log, Packet, packet, size, word, aim, free, sent, received, waiting}
 use Rattle.network.specs.Log.Happening.{offered}
 use Rattle.network.specs.Cycle.{Fabric, State}
-use Rattle.bounds.specs.declared.settings.Settings.{Settings}
-use Rattle.bounds.specs.SetUp.{all-tickets}
-use Rattle.clock.specs.Draws.{register}
-use Rattle.fabric.specs.Verdicts.{Verdict}
 use Rattle.network.specs.Runs.{ticket, missing, offer-verdict, with-log}
-use Rattle.network.specs.Computed.{decided}
 use Rattle.network.specs.Runs.Call.{offer}
 use Rattle.network.specs.Runs.Outcome.{offering}
-use Rattle.fabric.specs.Verdicts.Verdict.{granted, refused}
+use Rattle.network.specs.Computed.{decided}
 use Rattle.network.proofs.Invariant.{Each, Distinct, each-map, Waits as Waiting, Inv}
+use Rattle.calls.specs.declared.tables.Tables.{Tables}
+use Rattle.calls.specs.declared.ticket.Ticket.{Ticket}
+use Rattle.calls.specs.declared.waits.Waits.{Waits}
 use Rattle.calls.specs.Records.{no-ticket, no-waits, Accepts}
-use Rattle.calls.specs.Follow.{Shows, Recorded, Lined}
+use Rattle.calls.specs.Follow.{Shows, Recorded, Records, Lined}
 use Rattle.calls.proofs.Promising.{Works}
+use Rattle.calls.proofs.Showing.{like, change, invariant, logged}
 use Rattle.calls.proofs.Pigeons.{few}
 use Rattle.calls.proofs.Setting.{ticket-below}
-
--- a record that shows one log shows another that says the same of its ticket
-pub like : (r : Ticket) (t : ℕ) (l m : Log) → free t m ≡ free t l → packet t m ≡ packet t l → sent t m ≡ sent t l →
-    ((k : ℕ) → received t k m ≡ received t k l) → Recorded r t l → Recorded r t m
-like r t l m f p s w h =
-    record {
-      opened = h .opened ∙ ap not (sym f);
-      destination = h .destination ∙ ap aim (sym p);
-      size = h .size ∙ ap size (sym p);
-      sent = h .sent ∙ sym s;
-      words = λ k q. h .words k q ∙ ap (λ x. word x k) (sym p);
-      short = h .short;
-      received = λ k q. h .received k q ∙ sym (w k);
-    }
 
 -- a ticket's number lies among those of its node
 pub own-range : (T n x : ℕ) → 0 < T → x / T ≡ n → (n * T ≤ x) × (x < n * T + T)
@@ -79,7 +65,7 @@ module _ (F : Fabric) (i : Tables) (n o d : ℕ) (ws : List ℕ) where
   refuses : (k : ℕ) → ((s : State) → Shows F i s → offer-verdict F P s n o d ws ≡ refused k []) → Works F i i (offer n o d ws) (offering (refused k []))
   refuses k h =
       record {
-        does = λ s ok inv sh.
+        does = λ s led sh.
             let e = h s sh in
             record {
               exact = ap offering (sym e);
@@ -156,18 +142,12 @@ module _ (F : Fabric) (i : Tables) (n o d : ℕ) (ws : List ℕ) where
               let e = ne-eqb u t h in
               like r u l (offered t p ∷ l) (cond-false _ _ _ e) (cond-false _ _ _ e) (cond-false _ _ _ e) (λ k. cond-false _ _ _ e)
 
-          records : (s : State) → Shows F i s → (u : ℕ) → u < all-tickets (F .plan) P → Recorded (getD (j .tickets) u no-ticket) u (offered t p ∷ s .log)
-          records s sh u h = go (cases-eq u t)
-            where
-              go : (u ≡ t) ⊎ (u ≡ t → ⊥) → Recorded (getD (j .tickets) u no-ticket) u (offered t p ∷ s .log)
-              go (inl q) =
-                  let below = ticket-below F law P (i .few) in
-                  let e : getD (j .tickets) t no-ticket ≡ a .its = ap (λ xs. getD xs t no-ticket) (a .tickets) ∙ getD-set-same (i .tickets) t (a .its) no-ticket (let z = own in omega arith) in
-                  subst (λ (v : ℕ). Recorded (getD (j .tickets) v no-ticket) v (offered t p ∷ s .log)) (sym q)
-                  (subst (λ (r : Ticket). Recorded r t (offered t p ∷ s .log)) (sym e) (new-record (s .log)))
-              go (inr q) =
-                  let e : getD (j .tickets) u no-ticket ≡ getD (i .tickets) u no-ticket = ap (λ xs. getD xs u no-ticket) (a .tickets) ∙ getD-set-other (i .tickets) t u (a .its) no-ticket q in
-                  subst (λ (r : Ticket). Recorded r u (offered t p ∷ s .log)) (sym e) (other-record u _ (s .log) q (sh .records u h))
+          records : (s : State) → Shows F i s → Records (all-tickets (F .plan) P) (j .tickets) (offered t p ∷ s .log)
+          records s sh =
+              let below = ticket-below F law P (i .few) in
+              let mine = own in
+              subst (λ (xs : List Ticket). Records (all-tickets (F .plan) P) xs (offered t p ∷ s .log)) (sym (a .tickets))
+              (change (all-tickets (F .plan) P) t (i .tickets) (a .its) (s .log) (offered t p ∷ s .log) (omega arith) (sh .records) (λ _. new-record (s .log)) (λ u d. other-record u _ (s .log) d))
 
           queued : (s : State) → Inv F P s 0 → Shows F i s → (m : ℕ) → m < F .plan .nodes → Lined (getD (j .waits) m no-waits) (waiting (P .tickets) m (offered t p ∷ s .log))
           queued s inv sh m h = go (cases-eq m n)
@@ -199,19 +179,13 @@ module _ (F : Fabric) (i : Tables) (n o d : ℕ) (ws : List ℕ) where
           pub grants : Works F i j (offer n o d ws) (offering (granted tt))
           grants =
               record {
-                does = λ s ok inv sh.
+                does = λ s led sh.
                     let e = verdict s sh in
                     let then = with-log F P s (offered t p) in
-                    let shows : Shows F j then = record {
-                      cycles = a .cycles ∙ sh .cycles;
-                      drawn = a .register ∙ sh .drawn ∙ ap (λ (Q : Settings). register (Q .seed) (s .cycles * F .plan .nodes)) (sym (a .settings));
-                      slots = λ m q h. ap (λ xs. getD xs (4 * m + Rattle.fabric.specs.Ports.place-of q) None) (a .slots) ∙ sh .slots m q h;
-                      records = subst (λ (Q : Settings). (u : ℕ) → u < all-tickets (F .plan) Q → Recorded (getD (j .tickets) u no-ticket) u (offered t p ∷ s .log)) (sym (a .settings)) (records s sh);
-                      queued = subst (λ (Q : Settings). (m : ℕ) → m < F .plan .nodes → Lined (getD (j .waits) m no-waits) (waiting (Q .tickets) m (offered t p ∷ s .log))) (sym (a .settings)) (queued s inv sh);
-                    } in
+                    let shows : Shows F j then = logged F i j s (offered t p) (a .keeps) sh (records s sh) (queued s (invariant F P law s led) sh) in
                     record {
                       exact = ap offering (sym e);
-                      same = a .settings;
+                      same = a .keeps .settings;
                       shows = subst (λ (v : Verdict (Unit {0})). Shows F j (decided v then s)) (sym e) shows;
                     };
               }

@@ -1,6 +1,8 @@
 -- What a call does from any state, it promises of every run.
-use mathlib.Core.Path.{_≡_, refl, sym, ap₂, subst, _∙_}
+use mathlib.Core.Path.{_≡_, refl, sym, ap₂, subst, subst₂, _∙_}
 use mathlib.Core.List.{List, [], _∷_}
+use mathlib.Core.Bool.{true, false}
+use Rattle.std.proofs.shelf.Tests.{both-ways}
 use Rattle.fabric.specs.Layouts.{Lawful}
 use Rattle.fabric.specs.Verdicts.Verdict.{granted}
 use Rattle.switch.specs.Switches.{Lawful-switch}
@@ -10,15 +12,14 @@ use Rattle.network.specs.Cycle.{Fabric, State}
 use Rattle.network.specs.Runs.{Call, Outcome, Serves, Leads, fresh}
 use Rattle.network.specs.Runs.Leads.{set-up as led-none, one-more as led-more}
 use Rattle.network.specs.Promises.{Kept, Answered}
-use Rattle.network.specs.Computed.{next, outcome, after}
-use Rattle.network.proofs.Invariant.{Inv}
-use Rattle.network.proofs.Running.{invariant}
-use Rattle.network.proofs.Solving.{served, clear-after, led-one}
+use Rattle.network.specs.Computed.{next, outcome}
+use Rattle.network.proofs.Solving.{served-one, answered}
 use Rattle.network.proofs.Kept.{kept}
 use Rattle.calls.specs.declared.tables.Tables.{Tables}
 use Rattle.calls.specs.Follow.{Shows, Follows, Continues, Refused, Promised, Served, Answers, Kept-throughout, Whole}
 use Rattle.calls.specs.Follow.Served.{begun, one-more as served-more}
 use Rattle.calls.specs.Follow.Answers.{set-up as no-call, one-more as a-call}
+use Rattle.calls.specs.Midway.{Reached}
 
 -- what a call does, from a state that the tables show
 pub record Does (F : Fabric) (i j : Tables) (s : State) (k : Call) (o : Outcome) : Type 0 where
@@ -26,22 +27,30 @@ pub record Does (F : Fabric) (i j : Tables) (s : State) (k : Call) (o : Outcome)
   pub same : j .settings ≡ i .settings
   pub shows : Shows F j (next F (i .settings) s k)
 
--- and from every such state to which a network can come
+-- and from every such state to which a run leads
 pub record Works (F : Fabric) (i j : Tables) (k : Call) (o : Outcome) : Type 0 where
-  pub does : (s : State) → set-up-verdict (F .plan) (i .settings) ≡ granted tt → Inv F (i .settings) s 0 → Shows F i s → Does F i j s k o
+  pub does : (s : State) → Reached F (i .settings) s → Shows F i s → Does F i j s k o
+
+-- what is granted is not refused
+pub not-refused : {A : Type 0} → false ≡ true → A
+not-refused e = absurd (both-ways false refl e)
 
 module _ (F : Fabric) (law : Lawful (F .plan)) (sw : Lawful-switch (F .turn)) where
+  -- what is computed is the outcome
+  computed : (P : Settings) (s : State) (k : Call) → Serves F P s k (outcome F P s k) (next F P s k)
+  computed P s k =
+      let a : Answered F P s k = answered F P law s k in
+      let e = served-one F P law s (a .served) in
+      subst₂ (λ (o : Outcome) (r : State). Serves F P s k o r) (e .0) (e .1) (a .served)
+
   pub promised : (i j : Tables) (k : Call) (o : Outcome) → Works F i j k o → (Refused o → j ≡ i) → Promised F i j k o
   promised i j k o w u = record { continues = go; unchanged = u }
     where
       go : (run : List Call) (s : State) → Follows F i run s → Continues F i j run s k o
       go run s f =
           let P : Settings = i .settings in
-          let at : s ≡ after F P run = led-one F P law (f .leads) in
-          let d : Does F i j s k o = w .does s (f .lawful) (subst (λ (x : State). Inv F P x 0) (sym at) (invariant F P law run)) (f .shows) in
-          let v : Serves F P s k o (next F P s k) =
-          subst (λ (x : Outcome). Serves F P s k x (next F P s k)) (sym (d .exact))
-          (subst (λ (x : State). Serves F P x k (outcome F P x k) (next F P x k)) (sym at) (served F P law (after F P run) (clear-after F P law run) k)) in
+          let d : Does F i j s k o = w .does s (run, f .leads) (f .shows) in
+          let v : Serves F P s k o (next F P s k) = subst (λ (x : Outcome). Serves F P s k x (next F P s k)) (sym (d .exact)) (computed P s k) in
           let led : Leads F P (k ∷ run) (next F P s k) = led-more (f .leads) v in
           record {
             state = next F P s k;
@@ -63,16 +72,11 @@ module _ (F : Fabric) (law : Lawful (F .plan)) (sw : Lawful-switch (F .turn)) wh
     abbrev P : Settings
     P = i .settings
 
-    -- a run with outcomes is a run
-    ledger : {ks : List Call} {os : List Outcome} {s : State} → Answers F P ks os s → Leads F P ks s
-    ledger no-call = led-none
-    ledger (a-call a v) = led-more (ledger a) v
-
     one-way : {ks : List Call} {os us : List Outcome} {s r : State} → Answers F P ks os s → Answers F P ks us r → (us ≡ os) × (r ≡ s)
     one-way no-call no-call = (refl, refl)
     one-way (a-call {ks} {s = s} {k = k} a v) (a-call {r = r} {o = u} b w) =
         let e = one-way a b in
-        let n : Answered F P s k = kept F P law sw ok ks .answered s (ledger a) k in
+        let n : Answered F P s k = answered F P law s k in
         let x = n .only _ _ v in
         let y = n .only _ _ (subst (λ (z : State). Serves F P z k u r) (e .1) w) in
         (ap₂ (λ (o : Outcome) (os : List Outcome). o ∷ os) (y .0 ∙ sym (x .0)) (e .0), y .1 ∙ sym (x .1))

@@ -9,23 +9,23 @@ use lib.Dec.{eqb, ltb}
 use lib.ListN.{getD}
 use Rattle.std.specs.declared.option.Option.the-variants.{None}
 use Rattle.std.proofs.shelf.Lists.{getD-replicate}
+use Rattle.std.proofs.shelf.Tests.{cond-false, or-from, or-parts, le-ltb, ltb-false}
 use Rattle.fabric.specs.declared.parts.Port.{Port}
 use Rattle.fabric.specs.declared.parts.Port.the-variants.{N, E, S, W}
 use Rattle.fabric.specs.Ports.{place-of}
 use Rattle.fabric.specs.Layouts.{Plan, Lawful}
+use Rattle.fabric.specs.Verdicts.Verdict.{granted}
 use Rattle.switch.specs.Switches.{Lawful-switch}
-use Rattle.calls.specs.declared.tables.Tables.{Tables}
-use Rattle.calls.specs.declared.ticket.Ticket.{Ticket}
-use Rattle.calls.specs.declared.waits.Waits.{Waits}
-use Rattle.network.specs.Cycle.{Fabric}
 use Rattle.bounds.specs.declared.settings.Settings.{Settings}
 use Rattle.bounds.specs.SetUp.{all-tickets, shortest-epoch, set-up-verdict}
 use Rattle.clock.specs.Draws.{register}
-use Rattle.std.proofs.shelf.Tests.{cond-false, or-from, or-parts, le-ltb, ltb-false}
+use Rattle.network.specs.Cycle.{Fabric}
 use Rattle.network.specs.Runs.{fresh}
 use Rattle.network.specs.Runs.Leads.{set-up}
-use Rattle.fabric.specs.Verdicts.Verdict.{granted}
 use Rattle.network.proofs.Running.{peel}
+use Rattle.calls.specs.declared.tables.Tables.{Tables}
+use Rattle.calls.specs.declared.ticket.Ticket.{Ticket}
+use Rattle.calls.specs.declared.waits.Waits.{Waits}
 use Rattle.calls.specs.Fits.{Fits}
 use Rattle.calls.specs.Records.{blank, nobody, no-ticket, no-waits, Starts}
 use Rattle.calls.specs.Follow.{Recorded, Lined, Follows, Begins, slot-of}

@@ -3,12 +3,12 @@ use Prim.Native.Nat.{ℕ, _+_, _*_, _<_, _≤_}
 use mathlib.Core.Path.{_≡_, refl, sym, ap, subst, _∙_}
 use mathlib.Core.Logic.{_⊎_, inl, inr}
 use mathlib.Core.List.{List}
+use mathlib.Core.Bool.{true, false}
 use native.Mathlib.Omega.{arith}
 use native.Mathlib.Numerals.{add-one}
 use lib.ListN.{getD, set, length}
 use Rattle.std.specs.declared.option.Option.{Option}
 use Rattle.std.specs.declared.option.Option.the-variants.{Some, None}
-use mathlib.Core.Bool.{true, false}
 use Rattle.std.specs.Options.{isSome}
 use Rattle.std.proofs.shelf.Lists.{getD-set-same, getD-set-other}
 use Rattle.std.proofs.shelf.Tests.{cases-eq, both-ways}
@@ -19,8 +19,8 @@ use Rattle.fabric.specs.declared.parts.Flit.{Flit}
 use Rattle.fabric.specs.Layouts.{Plan, Lawful}
 use Rattle.fabric.specs.Ports.{place-of}
 use Rattle.switch.specs.Switches.{at}
-use Rattle.network.specs.Computed.{due, better, best, gap, or-else, if-empty}
 use Rattle.network.specs.Runs.{port-of}
+use Rattle.network.specs.Computed.{due, better, best, gap, or-else, if-empty}
 use Rattle.calls.specs.Steps.{far-place, best-upto, Spread, Spread-upto}
 use Rattle.calls.proofs.Looking.{place-of-port}
 use Rattle.calls.proofs.Setting.{place-below}
@@ -44,30 +44,25 @@ best-more g n k xs h =
     ∙ ap (best-upto g (λ p. due n (at xs p))) (sym (add-one k))
 
 -- an empty place, and one that is not
-empty : (o : Option Flit) (p : Port) (q : Option Port) → o ≡ None → or-else (if-empty o p) q ≡ Some p
-empty o p q e = ap (λ x. or-else (if-empty x p) q) e
+empty : (o : Option Flit) (p : Port) → o ≡ None → if-empty o p ≡ Some p
+empty o p e = ap (λ x. if-empty x p) e
 
-full : (o : Option Flit) (p : Port) (q : Option Port) → (o ≡ None → ⊥) → or-else (if-empty o p) q ≡ q
-full None p q h = absurd (h refl)
-full (Some f) p q h = refl
+full : (o : Option Flit) (p : Port) → (o ≡ None → ⊥) → if-empty o p ≡ None
+full None p h = absurd (h refl)
+full (Some f) p h = refl
 
-last-empty : (o : Option Flit) (p : Port) → o ≡ None → if-empty o p ≡ Some p
-last-empty o p e = ap (λ x. if-empty x p) e
-
-last-full : (o : Option Flit) (p : Port) → (o ≡ None → ⊥) → if-empty o p ≡ None
-last-full None p h = absurd (h refl)
-last-full (Some f) p h = refl
+first-of : {a b c d w x y z : Option Port} → a ≡ w → b ≡ x → c ≡ y → d ≡ z → or-else (or-else (or-else a b) c) d ≡ or-else (or-else (or-else w x) y) z
+first-of e f g h i = or-else (or-else (or-else (e i) (f i)) (g i)) (h i)
 
 pub gap-found : (xs : List (Option Flit)) (k : ℕ) → k < 4 → ((j : ℕ) → j < k → getD xs j None ≡ None → ⊥) → getD xs k None ≡ None → gap (at xs) ≡ Some (port-of k)
-gap-found xs ℕ.zero h b e = empty _ N _ e
-gap-found xs (ℕ.suc ℕ.zero) h b e = full _ N _ (b 0 (omega arith)) ∙ empty _ E _ e
-gap-found xs (ℕ.suc (ℕ.suc ℕ.zero)) h b e = full _ N _ (b 0 (omega arith)) ∙ full _ E _ (b 1 (omega arith)) ∙ empty _ S _ e
-gap-found xs (ℕ.suc (ℕ.suc (ℕ.suc ℕ.zero))) h b e =
-    full _ N _ (b 0 (omega arith)) ∙ full _ E _ (b 1 (omega arith)) ∙ full _ S _ (b 2 (omega arith)) ∙ last-empty _ W e
+gap-found xs ℕ.zero h b e = first-of (empty _ N e) refl refl refl
+gap-found xs (ℕ.suc ℕ.zero) h b e = first-of (full _ N (b 0 (omega arith))) (empty _ E e) refl refl
+gap-found xs (ℕ.suc (ℕ.suc ℕ.zero)) h b e = first-of (full _ N (b 0 (omega arith))) (full _ E (b 1 (omega arith))) (empty _ S e) refl
+gap-found xs (ℕ.suc (ℕ.suc (ℕ.suc ℕ.zero))) h b e = first-of (full _ N (b 0 (omega arith))) (full _ E (b 1 (omega arith))) (full _ S (b 2 (omega arith))) (empty _ W e)
 gap-found xs (ℕ.suc (ℕ.suc (ℕ.suc (ℕ.suc k)))) h b e = absurd (omega arith)
 
 pub no-gap : (xs : List (Option Flit)) (k : ℕ) → 4 ≤ k → ((j : ℕ) → j < k → getD xs j None ≡ None → ⊥) → gap (at xs) ≡ None
-no-gap xs k h b = full _ N _ (b 0 (omega arith)) ∙ full _ E _ (b 1 (omega arith)) ∙ full _ S _ (b 2 (omega arith)) ∙ last-full _ W (b 3 (omega arith))
+no-gap xs k h b = first-of (full _ N (b 0 (omega arith))) (full _ E (b 1 (omega arith))) (full _ S (b 2 (omega arith))) (full _ W (b 3 (omega arith)))
 
 -- no two ports lead to the same place
 place-same : (p q : Port) → place-of p ≡ place-of q → p ≡ q

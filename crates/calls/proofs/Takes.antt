@@ -1,43 +1,41 @@
 -- A node takes a flit off: the tables then show the log with that.
 use Prim.Native.Nat.{ℕ, _<_}
 use mathlib.Core.Path.{_≡_, refl, sym, ap, subst, fun-ext, _∙_}
-use mathlib.Core.Logic.{_⊎_, inl, inr}
 use mathlib.Core.List.{List, _∷_, _++_}
 use mathlib.Core.Bool.{cond, _&&_}
 use native.Mathlib.Omega.{arith}
 use lib.Dec.{eqb}
-use lib.ListN.{length, getD, set}
+use lib.ListN.{getD, set}
 use Rattle.std.specs.declared.option.Option.{Option}
 use Rattle.std.specs.declared.option.Option.the-variants.{Some, None}
-use Rattle.std.proofs.shelf.Lists.{getD-set-same, getD-set-other}
-use Rattle.std.proofs.shelf.Tests.{cases-eq, eq-eqb, ne-eqb, cond-false, and-left}
+use Rattle.std.proofs.shelf.Tests.{eq-eqb, ne-eqb, cond-false, and-left}
 use Rattle.fabric.specs.declared.parts.Port.{Port}
 use Rattle.fabric.specs.declared.parts.Port.the-variants.{N, E, S, W}
 use Rattle.fabric.specs.declared.parts.Flit.{Flit}
 use Rattle.fabric.specs.Layouts.{Lawful}
 use Rattle.fabric.specs.Ports.{place-of}
 use Rattle.switch.specs.Switches.{at}
+use Rattle.line.specs.Queues.{Queue, put}
+use Rattle.bounds.specs.declared.settings.Settings.{Settings}
+use Rattle.bounds.specs.SetUp.{all-tickets}
 use Rattle.network.specs.declared.event.Event.{Event}
 use Rattle.network.specs.declared.event.Kind.the-variants.{Out}
-use Rattle.calls.specs.declared.ticket.Ticket.{Ticket}
-use Rattle.calls.specs.declared.waits.Waits.{Waits}
-use Rattle.calls.specs.declared.tables.Tables.{Tables}
 use Rattle.network.specs.Log.{Log, size, sent, received}
 use Rattle.network.specs.Log.Happening.{off}
 use Rattle.network.specs.Cycle.{Fabric, State, golden-in, off-at, in-slot-order}
-use Rattle.bounds.specs.declared.settings.Settings.{Settings}
-use Rattle.bounds.specs.SetUp.{all-tickets}
-use Rattle.network.specs.Computed.{due, best, same-port, without, taken, left}
-use Rattle.line.specs.Queues.{Queue, put}
 use Rattle.network.specs.Runs.{put-all, told, count-off}
+use Rattle.network.specs.Computed.{due, best, same-port, without, taken, left}
 use Rattle.network.proofs.Invariant.{Inv, Sits, Opened}
-use Rattle.calls.specs.Telling.{event-of}
-use Rattle.calls.specs.Records.{no-ticket, Keeps, Receives, Takes-in}
-use Rattle.calls.specs.Follow.{slot-of, Recorded, Records, Queued}
-use Rattle.calls.specs.Midway.{Between, Took}
 use Rattle.network.proofs.Nodes.{taken-here}
+use Rattle.calls.specs.declared.ticket.Ticket.{Ticket}
+use Rattle.calls.specs.declared.waits.Waits.{Waits}
+use Rattle.calls.specs.declared.tables.Tables.{Tables}
+use Rattle.calls.specs.Records.{Keeps, Receives, Takes-in}
+use Rattle.calls.specs.Telling.{event-of}
+use Rattle.calls.specs.Follow.{slot-of, Recorded, Records, Queued}
+use Rattle.calls.specs.Midway.{Reached, Between, Took}
 use Rattle.calls.proofs.Setting.{ticket-below}
-use Rattle.calls.proofs.Offers.{like}
+use Rattle.calls.proofs.Showing.{like, change, invariant}
 
 pub at-ordered : (here : Port → Option Flit) (p : Port) → at (in-slot-order here) p ≡ here p
 at-ordered here N = refl
@@ -62,18 +60,6 @@ between F s l m i j k b r q =
       queued = subst (λ (P : Settings). Queued (F .plan .nodes) (P .tickets) (j .waits) m) (sym (k .settings)) q;
     }
 
--- one record of a table changed
-pub change : (G t : ℕ) (ts : List Ticket) (its : Ticket) (l m : Log) → t < length ts → Records G ts l →
-    (Recorded (getD ts t no-ticket) t l → Recorded its t m) → ((u : ℕ) → (u ≡ t → ⊥) → Recorded (getD ts u no-ticket) u l → Recorded (getD ts u no-ticket) u m) →
-    Records G (set ts t its) m
-change G t ts its l m h r mine others u g = go (cases-eq u t)
-  where
-    go : (u ≡ t) ⊎ (u ≡ t → ⊥) → Recorded (getD (set ts t its) u no-ticket) u m
-    go (inl q) =
-        subst (λ (v : ℕ). Recorded (getD (set ts t its) v no-ticket) v m) (sym q)
-        (subst (λ (x : Ticket). Recorded x t m) (sym (getD-set-same ts t its no-ticket h)) (mine (subst (λ (v : ℕ). Recorded (getD ts v no-ticket) v l) q (r u g))))
-    go (inr q) = subst (λ (x : Ticket). Recorded x u m) (sym (getD-set-other ts t u its no-ticket q)) (others u q (r u g))
-
 module _ (f : Flit) (n c : ℕ) (l : Log) where
   -- the ticket's own record
   off-own : (r q : Ticket) → f .number < 4 → Receives r q (f .number) (f .word) → Recorded r (f .ticket) l → Recorded q (f .ticket) (off f n c ∷ l)
@@ -94,10 +80,13 @@ module _ (f : Flit) (n c : ℕ) (l : Log) where
   off-other : (u : ℕ) (r : Ticket) → (u ≡ f .ticket → ⊥) → Recorded r u l → Recorded r u (off f n c ∷ l)
   off-other u r h = like r u l (off f n c ∷ l) refl refl refl (λ k. cond-false _ _ _ (and-left _ _ (ne-eqb u (f .ticket) h)))
 
-module _ (F : Fabric) (i : Tables) (s : State) (l : Log) (n g : ℕ) (law : Lawful (F .plan)) (inv : Inv F (i .settings) s 0) (h : n < F .plan .nodes)
+module _ (F : Fabric) (i : Tables) (s : State) (l : Log) (n g : ℕ) (law : Lawful (F .plan)) (led : Reached F (i .settings) s) (h : n < F .plan .nodes)
     (gold : g ≡ golden-in F (i .settings) (s .cycles)) (b : Between F s l i) where
   abbrev P : Settings
   P = i .settings
+
+  inv : Inv F P s 0
+  inv = invariant F P law s led
 
   -- what the code looks at is what the definition looks at
   same-places : in-slot-order (slot-of (i .slots) n) ≡ in-slot-order (s .slot n)

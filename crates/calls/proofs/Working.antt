@@ -16,26 +16,28 @@ use Rattle.fabric.specs.declared.parts.Port.{Port}
 use Rattle.fabric.specs.declared.parts.Flit.{Flit}
 use Rattle.fabric.specs.Layouts.{Lawful}
 use Rattle.switch.specs.Switches.{Handing, at, turned}
-use Rattle.network.specs.declared.event.Event.{Event}
-use Rattle.calls.specs.declared.ticket.Ticket.{Ticket}
-use Rattle.calls.specs.declared.waits.Waits.{Waits}
-use Rattle.calls.specs.declared.tables.Tables.{Tables}
-use Rattle.network.specs.Log.{Log, sent}
-use Rattle.network.specs.Log.Happening.{offered, entered, off, collected}
-use Rattle.network.specs.Cycle.{Fabric, State, golden-in, wish-of, off-at, entered-at, in-slot-order}
+use Rattle.line.specs.Queues.{Queue}
 use Rattle.bounds.specs.declared.settings.Settings.{Settings}
 use Rattle.bounds.specs.SetUp.{all-tickets}
 use Rattle.clock.specs.Draws.{register, shifted, draw-bits}
-use Rattle.network.specs.Computed.{taken, left, entering, ready, handing, done}
-use Rattle.line.specs.Queues.{Queue}
+use Rattle.network.specs.declared.event.Event.{Event}
+use Rattle.network.specs.Log.{Log, sent}
+use Rattle.network.specs.Log.Happening.{offered, entered, off, collected}
+use Rattle.network.specs.Cycle.{Fabric, State, golden-in, wish-of, off-at, entered-at, in-slot-order}
 use Rattle.network.specs.Runs.{put-all, told, count-off}
+use Rattle.network.specs.Computed.{taken, left, entering, ready, handing, leaving, done}
 use Rattle.network.proofs.Invariant.{Inv}
+use Rattle.network.proofs.Cycling.{off-packet, off-waiting, off-sent, keeps-packet, keeps-waiting, keeps-sent, grown, half-log, grown-more}
+use Rattle.calls.specs.declared.ticket.Ticket.{Ticket}
+use Rattle.calls.specs.declared.waits.Waits.{Waits}
+use Rattle.calls.specs.declared.tables.Tables.{Tables}
+use Rattle.calls.specs.Records.{Draws}
 use Rattle.calls.specs.Steps.{wished, far-place, Spread}
 use Rattle.calls.specs.Follow.{slot-of, Records, Queued}
-use Rattle.calls.specs.Midway.{Between, Took, Takes-off, Own, Let, Enters, Node-works}
-use Rattle.network.proofs.Cycling.{off-packet, off-waiting, off-sent, keeps-packet, keeps-waiting, keeps-sent, grown, half-log, grown-more}
+use Rattle.calls.specs.Midway.{Reached, Between, Took, Takes-off, Own, Let, Enters, Node-works}
 use Rattle.calls.proofs.Putting.{put-length, put-more}
 use Rattle.calls.proofs.Stepping.{far-same}
+use Rattle.calls.proofs.Showing.{invariant}
 use Rattle.calls.proofs.Takes.{at-ordered}
 
 -- the events and the count of happenings
@@ -57,15 +59,14 @@ same-wish : (F : Fabric) (n : ℕ) (o : Option Flit) → wished (F .plan) n o �
 same-wish F n None = refl
 same-wish F n (Some f) = refl
 
--- the tables after a change of nothing that a state shows
-between-same : (F : Fabric) (s : State) (l : Log) (i j : Tables) → j .settings ≡ i .settings → j .cycles ≡ i .cycles → j .slots ≡ i .slots → j .tickets ≡ i .tickets →
-    j .waits ≡ i .waits → Between F s l i → Between F s l j
-between-same F s l i j se cy sl ti wa b =
+-- the tables after a draw
+between-same : (F : Fabric) (s : State) (l : Log) (i j : Tables) {ds : List Bool} → Draws i j ds → Between F s l i → Between F s l j
+between-same F s l i j d b =
     record {
-      cycles = cy ∙ b .cycles;
-      slots = λ n p h. ap (λ xs. slot-of xs n p) sl ∙ b .slots n p h;
-      records = subst₂ (λ (P : Settings) (ts : List Ticket). Records (all-tickets (F .plan) P) ts l) (sym se) (sym ti) (b .records);
-      queued = subst₂ (λ (P : Settings) (ws : List Waits). Queued (F .plan .nodes) (P .tickets) ws l) (sym se) (sym wa) (b .queued);
+      cycles = d .cycles ∙ b .cycles;
+      slots = λ n p h. ap (λ xs. slot-of xs n p) (d .slots) ∙ b .slots n p h;
+      records = subst₂ (λ (P : Settings) (ts : List Ticket). Records (all-tickets (F .plan) P) ts l) (sym (d .settings)) (sym (d .tickets)) (b .records);
+      queued = subst₂ (λ (P : Settings) (ws : List Waits). Queued (F .plan .nodes) (P .tickets) ws l) (sym (d .settings)) (sym (d .waits)) (b .queued);
     }
 
 module _ (F : Fabric) (P : Settings) (s : State) where
@@ -119,7 +120,7 @@ module _ (F : Fabric) (P : Settings) (s : State) where
       record {
         line = off-waiting F P s n n (taken F P s n) (grown F P s n) ∙ keeps-waiting F P s n n (omega arith);
         packets = λ t. off-packet F P s t n (taken F P s n) (grown F P s n) ∙ keeps-packet F P s n t;
-        sent = λ t e. off-sent F P s t n (taken F P s n) (grown F P s n) ∙ keeps-sent F P s inv n t (omega arith);
+        flits = λ t e. off-sent F P s t n (taken F P s n) (grown F P s n) ∙ keeps-sent F P s inv n t (omega arith);
       }
 
   -- what the code hands to the switch
@@ -138,13 +139,12 @@ module _ (F : Fabric) (P : Settings) (s : State) where
       λ k. record { places = ep k; wishes = w k; golden = eg k; draws = d k }
 
 module _ (F : Fabric) (law : Lawful (F .plan)) (i i₁ i₂ i₃ : Tables) (n g : ℕ) (hn : n < F .plan .nodes) (before after : List (Option Flit)) (u u₁ u₂ : Queue Event) (off : ℕ)
-    (left-places places leaving : List (Option Flit)) (wishes : List (Option Port)) (ds : List Bool)
+    (left-places places routed : List (Option Flit)) (wishes : List (Option Port)) (ds : List Bool)
     (takes : Takes-off i i₁ n g u u₁ left-places off) (enters : Enters i₁ i₂ n u₁ u₂ left-places places)
-    (reg : i₃ .register ≡ shifted (i₂ .register)) (bits : ds ≡ draw-bits (i₃ .register))
-    (se : i₃ .settings ≡ i₂ .settings) (cy : i₃ .cycles ≡ i₂ .cycles) (sl : i₃ .slots ≡ i₂ .slots) (ti : i₃ .tickets ≡ i₂ .tickets) (wa : i₃ .waits ≡ i₂ .waits)
+    (drew : Draws i₂ i₃ ds)
     (wish : wishes ≡ in-slot-order (λ p. wished (F .plan) n (at places p)))
-    (route : leaving ≡ turned (F .turn (record { places = places; wishes = wishes; golden = g; draws = ds })) places)
-    (spread : Spread (F .plan) n leaving before after) where
+    (route : routed ≡ turned (F .turn (record { places = places; wishes = wishes; golden = g; draws = ds })) places)
+    (spread : Spread (F .plan) n routed before after) where
   abbrev P : Settings
   P = i .settings
 
@@ -157,11 +157,11 @@ module _ (F : Fabric) (law : Lawful (F .plan)) (i i₁ i₂ i₃ : Tables) (n g 
   pub node-works : Node-works F i i₃ n g before after u u₂ off
   node-works =
       record {
-        same = se ∙ same-2;
-        cycles = cy ∙ enters .keeps .cycles ∙ takes .keeps .cycles;
+        same = drew .settings ∙ same-2;
+        cycles = drew .cycles ∙ enters .keeps .cycles ∙ takes .keeps .cycles;
         few = takes .few;
-        works = λ s q count inv gold room m.
-            let took : Took F P s n (grown F P s n) i₁ u u₁ left-places off = takes .took F s (grown F P s n) law inv hn gold (m .shows) (omega arith) in
+        works = λ s q count led gold room m.
+            let took : Took F P s n (grown F P s n) i₁ u u₁ left-places off = takes .took F s (grown F P s n) law led hn gold (m .shows) (omega arith) in
             let more = put-length u (told (off-at (s .cycles) n (taken F P s n))) in
             let l1 : length (u₁ .memory) ≡ length (u .memory) = ap (λ (x : Queue Event). length (x .memory)) (took .line) ∙ more .0 in
             let h1 : u₁ .held ≡ u .held + length (told (off-at (s .cycles) n (taken F P s n))) = ap (λ (x : Queue Event). x .held) (took .line) ∙ more .1 in
@@ -169,30 +169,30 @@ module _ (F : Fabric) (law : Lawful (F .plan)) (i i₁ i₂ i₃ : Tables) (n g 
             let room-1 : u₁ .held < length (u₁ .memory) = omega arith in
             let let-in : Let F P s n (half-log F P s n) i₂ u₁ u₂ places =
             subst (λ (Q : Settings). Let F Q s n (half-log F P s n) i₂ u₁ u₂ places) same-1
-            (enters .lets F s (half-log F P s n) law (subst (λ (Q : Settings). Inv F Q s 0) (sym same-1) inv) hn
-            (subst (λ (Q : Settings). Own Q s n (half-log F P s n)) (sym same-1) (own-log F P s inv n)) (took .shows)
+            (enters .lets F s (half-log F P s n) law (subst (λ (Q : Settings). Reached F Q s) (sym same-1) led) hn
+            (subst (λ (Q : Settings). Own Q s n (half-log F P s n)) (sym same-1) (own-log F P s (invariant F P law s led) n)) (took .shows)
             (subst (λ (Q : Settings). left-places ≡ in-slot-order (left F Q s n)) (sym same-1) (took .gives)) room-1) in
             let drawn : i₃ .register ≡ register (P .seed) (suc (s .cycles * F .plan .nodes + n)) =
-            reg ∙ ap shifted (enters .keeps .register ∙ takes .keeps .register ∙ m .drawn) in
+            drew .register ∙ ap shifted (enters .keeps .register ∙ takes .keeps .register ∙ m .drawn) in
             let e1 : suc (s .cycles * F .plan .nodes + n) ≡ s .cycles * F .plan .nodes + n + 1 = omega arith in
             let e2 : suc (s .cycles * F .plan .nodes + n) ≡ s .cycles * F .plan .nodes + (n + 1) = omega arith in
-            let handed-is = handed F P s n g (i₃ .register) places wishes ds gold (let-in .gives) wish (drawn ∙ ap (register (P .seed)) e1) bits in
-            let leaves : leaving ≡ turned (F .turn (handing F P s n)) (handing F P s n .places) =
+            let handed-is = handed F P s n g (i₃ .register) places wishes ds gold (let-in .gives) wish (drawn ∙ ap (register (P .seed)) e1) (drew .bits) in
+            let leaves : routed ≡ turned (F .turn (handing F P s n)) (handing F P s n .places) =
             route ∙ ap (λ (h : Handing). turned (F .turn h) (h .places)) handed-is in
             let log-is : entered-at n (entering F P s n) ++ half-log F P s n ≡ grown F P s (n + 1) = sym (ap (grown F P s) (add-one n) ∙ grown-more F P s n) in
             let sent-now : (k : ℕ) (p : Port) → k < n + 1 → (k ≡ n) ⊎ (k ≡ n → ⊥) →
-            getD after (far-place (F .plan) k p) None ≡ at (turned (F .turn (handing F P s k)) (handing F P s k .places)) p =
+            getD after (far-place (F .plan) k p) None ≡ leaving F P s k p =
             λ k p h. elim [
               | inl e ↦
-                  subst (λ (x : ℕ). getD after (far-place (F .plan) x p) None ≡ at (turned (F .turn (handing F P s x)) (handing F P s x .places)) p) (sym e)
+                  subst (λ (x : ℕ). getD after (far-place (F .plan) x p) None ≡ leaving F P s x p) (sym e)
                   (spread .sent p ∙ ap (λ xs. at xs p) leaves)
               | inr d ↦
                   let lt : k < n = omega arith in
                   spread .rest (far-place (F .plan) k p) (λ r z. d (far-same (F .plan) law k n p r (let y : k < F .plan .nodes = omega arith in y) hn z .0)) ∙ m .sent k p lt
             ] in
             record {
-              settings = se ∙ same-2;
-              shows = between-same F s (done F P s (n + 1) ++ s .log) i₂ i₃ se cy sl ti wa (subst (λ (l : Log). Between F s l i₂) log-is (let-in .shows));
+              settings = drew .settings ∙ same-2;
+              shows = between-same F s (done F P s (n + 1) ++ s .log) i₂ i₃ drew (subst (λ (l : Log). Between F s l i₂) log-is (let-in .shows));
               drawn = drawn ∙ ap (register (P .seed)) e2;
               sent = λ k p h. sent-now k p h (cases-eq k n);
               line =

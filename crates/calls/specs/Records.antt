@@ -9,10 +9,11 @@ use Rattle.std.specs.declared.option.Option.{Option}
 use Rattle.std.specs.declared.option.Option.the-variants.{Some, None}
 use Rattle.fabric.specs.declared.parts.Flit.{Flit}
 use Rattle.bounds.specs.declared.settings.Settings.{Settings}
+use Rattle.clock.specs.Draws.{shifted, draw-bits}
+use Rattle.network.specs.Log.{has, value}
 use Rattle.calls.specs.declared.ticket.Ticket.{Ticket}
 use Rattle.calls.specs.declared.waits.Waits.{Waits}
 use Rattle.calls.specs.declared.tables.Tables.{Tables}
-use Rattle.network.specs.Log.{has, value}
 
 abbrev pub blank : Ticket
 blank = record { busy = false; destination = 0; size = 0; sent = 0; words = replicate 4 0; received = replicate 4 None }
@@ -63,11 +64,16 @@ pub record Packed (r : Ticket) (destination : ℕ) (ws : List ℕ) : Type 0 wher
   pub words : (k : ℕ) → k < 4 → getD (r .words) k 0 ≡ getD ws k 0
   pub received : r .received ≡ replicate 4 None
 
-pub record Accepts (i j : Tables) (n t d : ℕ) (ws : List ℕ) : Type 0 where
+-- nothing but tickets and queues is changed
+pub record Keeps (i j : Tables) : Type 0 where
   pub settings : j .settings ≡ i .settings
   pub cycles : j .cycles ≡ i .cycles
   pub register : j .register ≡ i .register
   pub slots : j .slots ≡ i .slots
+
+-- a packet is accepted under a ticket of a node, and waits there
+pub record Accepts (i j : Tables) (n t d : ℕ) (ws : List ℕ) : Type 0 where
+  pub keeps : Keeps i j
   pub its : Ticket
   pub packed : Packed its d ws
   pub tickets : j .tickets ≡ set (i .tickets) t its
@@ -77,10 +83,7 @@ pub record Accepts (i j : Tables) (n t d : ℕ) (ws : List ℕ) : Type 0 where
 
 -- a ticket's packet is collected
 pub record Frees (i j : Tables) (t : ℕ) : Type 0 where
-  pub settings : j .settings ≡ i .settings
-  pub cycles : j .cycles ≡ i .cycles
-  pub register : j .register ≡ i .register
-  pub slots : j .slots ≡ i .slots
+  pub keeps : Keeps i j
   pub waits : j .waits ≡ i .waits
   pub its : Ticket
   pub tickets : j .tickets ≡ set (i .tickets) t its
@@ -110,13 +113,6 @@ pub record Sends (r q : Ticket) (t c : ℕ) (o : Option Flit) : Type 0 where
   pub sent : r .sent < 4 → q .sent ≡ r .sent + 1
   pub flit : r .sent < 4 → o ≡ Some (record { ticket = t; number = r .sent; destination = r .destination; word = getD (r .words) (r .sent) 0; entered = c })
 
--- nothing but tickets and queues is changed
-pub record Keeps (i j : Tables) : Type 0 where
-  pub settings : j .settings ≡ i .settings
-  pub cycles : j .cycles ≡ i .cycles
-  pub register : j .register ≡ i .register
-  pub slots : j .slots ≡ i .slots
-
 -- the word of a flit is entered in the record of its ticket
 pub record Takes-in (i j : Tables) (f : Flit) : Type 0 where
   pub keeps : Keeps i j
@@ -143,6 +139,16 @@ pub record Lets-in (i j : Tables) (n : ℕ) (o : Option Flit) : Type 0 where
   pub keeps : Keeps i j
   pub none : line-of (getD (i .waits) n no-waits) ≡ [] → (o ≡ None) × (j .tickets ≡ i .tickets) × (j .waits ≡ i .waits)
   pub some : (t : ℕ) (ts : List ℕ) → line-of (getD (i .waits) n no-waits) ≡ t ∷ ts → t < 512 → Lets-go i j n t o
+
+-- the draw register is shifted
+pub record Draws (i j : Tables) (ds : List Bool) : Type 0 where
+  pub settings : j .settings ≡ i .settings
+  pub cycles : j .cycles ≡ i .cycles
+  pub register : j .register ≡ shifted (i .register)
+  pub bits : ds ≡ draw-bits (j .register)
+  pub slots : j .slots ≡ i .slots
+  pub tickets : j .tickets ≡ i .tickets
+  pub waits : j .waits ≡ i .waits
 
 -- a cycle ends
 pub record Advances (i j : Tables) (arrived : List (Option Flit)) : Type 0 where

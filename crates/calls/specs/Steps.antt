@@ -8,10 +8,10 @@ use Rattle.std.specs.declared.option.Option.the-variants.{Some, None}
 use Rattle.fabric.specs.declared.parts.Port.{Port}
 use Rattle.fabric.specs.declared.parts.Flit.{Flit}
 use Rattle.fabric.specs.Layouts.{Plan}
-use Rattle.network.specs.Computed.{better}
-use Rattle.network.specs.Runs.{port-of}
 use Rattle.fabric.specs.Ports.{place-of}
 use Rattle.switch.specs.Switches.{at}
+use Rattle.network.specs.Runs.{port-of}
+use Rattle.network.specs.Computed.{better}
 
 abbrev pub wished : Plan → ℕ → Option Flit → Option Port
 wished p n None = None

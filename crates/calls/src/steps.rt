@@ -5,9 +5,9 @@ ghost use lib.ListN.{set};
 ghost use Rattle.std.specs.declared.option.Option.the-variants.{None};
 ghost use Rattle.fabric.specs.Ports.{place-of};
 ghost use Rattle.switch.specs.Switches.{at};
-ghost use Rattle.network.specs.Computed.{due as is-due, better as is-better, best as is-best, ahead as is-ahead, gap as is-gap};
 ghost use Rattle.network.specs.Cycle.{in-slot-order};
 ghost use Rattle.network.specs.Runs.{port-of};
+ghost use Rattle.network.specs.Computed.{due as is-due, better as is-better, best as is-best, ahead as is-ahead, gap as is-gap};
 ghost use Rattle.calls.specs.Steps.{wished, far-place, Spread};
 use super::tables::SLOTS;
 use fabric::layout::Layout;
@@ -66,7 +66,7 @@ fn better(
     }
 }
 
-// Which flit a node takes off, and from where.
+// Which flit a node ejects, and from which place.
 pub(crate) fn best(golden: usize, node: usize, places: [Option<Flit>; 4]) -> Option<(Port, Flit)>
     ensures { λ r. ⌜ r ≡ is-best golden (λ p. is-due node (at places p)) ⌝ }
 {

@@ -19,10 +19,15 @@ pub(crate) const EMPTY: Option<Flit> = None;
 #[derive(Drop)]
 pub(crate) struct Tables {
     pub settings: Settings,
+    // so many cycles are carried out
     pub cycles: u32,
+    // the draw register
     pub register: u16,
+    // four of each node, in slot order
     pub slots: [Option<Flit>; SLOTS],
+    // as many of each node as the settings say
     pub tickets: [Ticket; TICKETS],
+    // a queue of each node
     pub waits: [Waits; NODES],
     ghost some: { 0 < settings .tickets },
     ghost few: { settings .tickets ≤ 8 },

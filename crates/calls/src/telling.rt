@@ -1,8 +1,8 @@
 // What a cycle tells in the caller's line.
 ghost use Prim.Native.Nat.{_<_};
 ghost use mathlib.Core.Path.{_≡_};
-ghost use denote.Ref.{name};
 ghost use lib.ListN.{length};
+ghost use denote.Ref.{name};
 ghost use Rattle.line.specs.Queues.{put};
 ghost use Rattle.line.specs.Lines.{queue-of};
 ghost use Rattle.calls.specs.Telling.{event-of};

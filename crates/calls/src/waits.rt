@@ -9,5 +9,6 @@ pub(crate) const NOBODY: Waits = Waits {
 #[derive(Clone, Copy)]
 pub(crate) struct Waits {
     pub tickets: [u16; 8],
+    // so many of them wait
     pub held: usize,
 }

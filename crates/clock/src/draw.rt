@@ -15,3 +15,15 @@ pub fn shift(register: u16) -> u16
         halved
     }
 }
+
+#[cfg(test)]
+mod tests {
+    use super::*;
+    use std::test::*;
+
+    #[test]
+    fn from_one() -> Result<(), Fail> {
+        check_eq(shift(0x0001), 0xB400)?;
+        check_eq(shift(0xB400), 0x5A00)
+    }
+}

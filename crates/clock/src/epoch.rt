@@ -14,3 +14,18 @@ pub fn golden(tickets: usize, epoch: usize, cycle: usize) -> usize
         cycle / epoch % tickets
     }
 }
+
+#[cfg(test)]
+mod tests {
+    use super::*;
+    use std::test::*;
+
+    #[test]
+    fn two_tickets() -> Result<(), Fail> {
+        check_eq(golden(2, 4, 3), 0)?;
+        check_eq(golden(2, 4, 4), 1)?;
+        check_eq(golden(2, 4, 8), 0)?;
+        check_eq(golden(0, 4, 4), 0)?;
+        check_eq(golden(2, 0, 4), 0)
+    }
+}

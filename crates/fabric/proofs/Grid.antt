@@ -15,8 +15,8 @@ use Rattle.std.specs.declared.option.Option.the-variants.{Some, None}
 use Rattle.fabric.specs.declared.parts.Port.{Port}
 use Rattle.fabric.specs.declared.parts.Port.the-variants.{N, E, S, W}
 use Rattle.fabric.specs.declared.parts.Slot.{Slot}
-use Rattle.fabric.specs.Layouts.{Plan, Lawful, Exists, Missing, Leads}
-use Rattle.fabric.specs.Meshes.{Fair, spot, across, gap, towards, both, mesh-plan, mesh-verdict}
+use Rattle.fabric.specs.Layouts.{Plan, Lawful, Leads, both}
+use Rattle.fabric.specs.Meshes.{Fair, spot, across, gap, towards, mesh-plan, mesh-verdict}
 use Rattle.fabric.specs.Verdicts.Verdict.{granted, refused}
 
 -- a mesh has at least as many nodes as its first row and first column together

@@ -1,7 +1,9 @@
 -- What a layout means, and the laws that every layout keeps.
 use Prim.Native.Nat.{ℕ, _+_, _<_, _≤_}
 use mathlib.Core.Path.{_≡_}
+use mathlib.Core.Bool.{Bool, _&&_}
 use mathlib.Core.Logic.{_⊎_}
+use lib.Dec.{ltb}
 use Rattle.std.specs.declared.option.Option.{Option}
 use Rattle.std.specs.declared.option.Option.the-variants.{Some, None}
 use Rattle.fabric.specs.declared.parts.Port.{Port}
@@ -25,6 +27,10 @@ Missing p n = p .nodes ≤ n
 -- a port of node m leads to a node that is one nearer to n
 abbrev pub Leads : Plan → ℕ → ℕ → Port → Type 0
 Leads p m n w = Exists p (p .far m w .node) × (p .distance (p .far m w .node) n + 1 ≡ p .distance m n)
+
+-- of k nodes both exist
+abbrev pub both : ℕ → ℕ → ℕ → Bool
+both k m n = ltb m k && ltb n k
 
 pub record Lawful (p : Plan) : Type 0 where
   pub some-node : 1 ≤ p .nodes

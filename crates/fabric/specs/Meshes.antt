@@ -1,6 +1,6 @@
 -- A mesh of w columns and h rows: node y * w + x is in column x and row y, and row 0 is the northmost.
 use Prim.Native.Nat.{ℕ, _+_, _-_, _*_, _/_, _%_, _<_, _≤_}
-use mathlib.Core.Bool.{Bool, cond, _&&_, _||_}
+use mathlib.Core.Bool.{cond, _||_}
 use mathlib.Core.List.{[], _∷_}
 use lib.Dec.{eqb, ltb}
 use Rattle.std.specs.declared.option.Option.{Option}
@@ -8,7 +8,7 @@ use Rattle.std.specs.declared.option.Option.the-variants.{Some, None}
 use Rattle.fabric.specs.declared.parts.Port.{Port}
 use Rattle.fabric.specs.declared.parts.Port.the-variants.{N, E, S, W}
 use Rattle.fabric.specs.declared.parts.Slot.{Slot}
-use Rattle.fabric.specs.Layouts.{Plan}
+use Rattle.fabric.specs.Layouts.{Plan, both}
 use Rattle.fabric.specs.Verdicts.{Verdict, judged}
 
 -- the widths and heights that a mesh may have
@@ -33,9 +33,6 @@ gap a b = (a - b) + (b - a)
 -- E or W while the columns differ, then N or S, from column x and row y to column u and row v
 abbrev pub towards : ℕ → ℕ → ℕ → ℕ → Option Port
 towards x y u v = cond (ltb x u) (Some E) (cond (ltb u x) (Some W) (cond (ltb y v) (Some S) (cond (ltb v y) (Some N) None)))
-
-abbrev pub both : ℕ → ℕ → ℕ → Bool
-both k m n = ltb m k && ltb n k
 
 abbrev pub mesh-plan : ℕ → ℕ → Plan
 mesh-plan w h = record {

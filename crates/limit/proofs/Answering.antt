@@ -1,49 +1,70 @@
--- What a line's verdict leaves for the lines after it.
-use Prim.Native.Nat.{ℕ, _≤_}
-use mathlib.Core.Path.{_≡_, sym, _∙_, subst}
+-- What the verdicts on a question's lines make of its report.
+use Prim.Native.Nat.{ℕ, _<_, _≤_}
+use mathlib.Core.Path.{_≡_, refl, sym, ap, subst}
 use mathlib.Core.Logic.{inl}
 use mathlib.Core.List.{List}
 use native.Mathlib.Omega.{arith}
-use lib.ListN.{length}
+use lib.ListN.{length, getD}
 use Rattle.std.specs.declared.result.Result.{Result}
 use Rattle.std.specs.declared.result.Result.the-variants.{Err}
+use Rattle.fabric.specs.declared.parts.Cable.{Cable}
 use Rattle.fabric.specs.Layouts.{Plan}
 use Rattle.fabric.specs.Verdicts.{Verdict}
 use Rattle.fabric.specs.Verdicts.Verdict.{granted, refused}
+use Rattle.cabled.specs.Cables.{Cabling, lone}
+use Rattle.cabled.specs.Cables.Cabling.{unfair, bad, unreached, cabled}
 use Rattle.bounds.specs.declared.limits.Limits.{Limits}
 use Rattle.sheet.specs.declared.fault.Fault.{Fault}
 use Rattle.sheet.specs.declared.fault.Layer.{Layer}
-use Rattle.sheet.specs.declared.fault.Layer.the-variants.{Layout, Network}
-use Rattle.sheet.specs.declared.parts.Question.{Question}
+use Rattle.sheet.specs.declared.parts.Shape.{Shape}
 use Rattle.sheet.specs.Faults.{told}
-use Rattle.sheet.specs.Questions.{lines, Formed}
-use Rattle.sheet.specs.Texts.{text}
-use Rattle.limit.specs.Answers.{Report, reported, at-line, laid, limits-verdict, Answered}
-use Rattle.limit.specs.Answers.Report.{answers, faults}
+use Rattle.sheet.specs.Questions.{Asked, Formed, asked-text}
+use Rattle.limit.specs.Reports.{Report, reported, then}
+use Rattle.limit.specs.Reports.Report.{answers, faults}
+use Rattle.limit.specs.Answers.{Laid, limited, Answered}
 
-module _ {A B : Type 0} (l : Layer) (k : ℕ) (more : A → Report B) where
-  -- a fault is the whole report
-  pub stops : (v : Verdict A) (x : ℕ × Layer × ℕ) → faults x ≡ at-line l k v answers → faults x ≡ at-line l k v more
-  stops (granted a) x e = absurd (let z : _≡_ {A = ℕ} 0 1 = cc in let f : ⊥ = omega arith in f)
-  stops (refused n vs) x e = cc
+-- what is cabled, seen as plans
+pub as-plans : {A : Type 0} (plan : A → Plan) {k : ℕ} {cs : List Cable} {x y : A} {v : Verdict Unit} → plan x ≡ lone →
+    Cabling plan k cs x y v → Cabling (λ q. q) k cs lone (plan y) v
+as-plans plan {k} {cs} {x} e = go
+  where
+    same : {v : Verdict Unit} → Cabling (λ q. q) k cs lone lone v → Cabling (λ q. q) k cs lone (plan x) v
+    same {v} = subst (λ (p : Plan). Cabling (λ q. q) k cs lone p v) (sym e)
 
-  -- what is granted goes on
-  pub goes-on : (v : Verdict A) (a : A) → answers a ≡ at-line l k v answers → more a ≡ at-line l k v more
-  goes-on (granted b) a e = cc
-  goes-on (refused n vs) a e = absurd (let z : _≡_ {A = ℕ} 0 1 = cc in let f : ⊥ = omega arith in f)
+    go : {y : _} {v : Verdict Unit} → Cabling plan k cs x y v → Cabling (λ q. q) k cs lone (plan y) v
+    go (unfair h) = same (unfair h)
+    go (bad f i l g h) = same (bad f i l g h)
+    go (unreached f g n l h) = same (unreached f g n l h)
+    go (cabled f g h m) = cabled f g h m
+
+abbrev pub Named-below : Verdict Unit → Type 0
+Named-below (granted a) = Unit {0}
+Named-below (refused n named) = getD named 0 0 < 128
+
+-- a refusal names a cable of the list, or a node
+pub named-below : {A : Type 0} {plan : A → Plan} {k : ℕ} {cs : List Cable} {x y : A} {v : Verdict Unit} → length cs ≤ 128 →
+    Cabling plan k cs x y v → Named-below v
+named-below few (unfair h) = omega arith
+named-below few (bad f i l g h) = omega arith
+named-below few (unreached f g n l h) = let most = f .1 in omega arith
+named-below few (cabled f g h m) = tt
+
+-- the layout's lines of a question, by what was read of them
+pub as-read : (s : Shape) {t : Shape} (cs : List Cable) {ds : List Cable} (r : Report Plan) → s ≡ t → ds ≡ cs → Laid t ds r → Laid s cs r
+as-read s {t} cs r e d h = subst (λ (u : Shape). Laid u cs r) (sym e) (subst (λ (es : List Cable). Laid t es r) d h)
 
 -- what the exit of a `?` reports
-pub reported-err : {A B : Type 0} (show : A → B) (P : Report B → Type 0) (f : Fault) (r : Result A Fault) → (y : Fault) × (r ≡ Err y) × (y ≡ f) →
-    P (faults (told f)) → P (reported show r)
-reported-err show P f r (y, e, i) h = subst (λ x. P (reported show x)) (sym e) (subst (λ x. P (faults (told x))) (sym i) h)
+pub reported-err : {A B : Type 0} (seen : A → B) (P : Report B → Type 0) (f : Fault) (r : Result A Fault) → (y : Fault) × (r ≡ Err y) × (y ≡ f) →
+    P (faults (told f)) → P (reported seen r)
+reported-err seen P f r (y, e, i) h = subst (λ x. P (reported seen x)) (sym e) (subst (λ x. P (faults (told x))) (sym i) h)
 
-module _ (bs : List ℕ) (q : Question) (asks : (length bs ≤ 65536) × Formed q × (bs ≡ text (lines q))) where
-  pub no-layout : (x : ℕ × Layer × ℕ) → faults x ≡ at-line Layout 1 (laid (q .shape)) answers → Answered bs (faults x)
-  no-layout x e = inl (q, asks .0, asks .1, asks .2, stops Layout 1 _ (laid (q .shape)) x e)
+module _ (bs : List ℕ) (q : Asked) (read : (length bs ≤ 65536) × Formed 128 q × (bs ≡ asked-text q)) where
+  pub no-layout : (x : ℕ × Layer × ℕ) → Laid (q .shape) (q .cables) (faults x) → Answered bs (faults x)
+  no-layout x h = inl (q, read .0, read .1, read .2, (faults x, h, refl))
 
-  module _ (p : Plan) (is : answers p ≡ at-line Layout 1 (laid (q .shape)) answers) where
-    pub no-limits : (x : ℕ × Layer × ℕ) → faults x ≡ at-line Network 2 (limits-verdict p (q .run)) answers → Answered bs (faults x)
-    no-limits x e = inl (q, asks .0, asks .1, asks .2, stops Network 2 _ (limits-verdict p (q .run)) x e ∙ goes-on Layout 1 _ (laid (q .shape)) p is)
+  module _ (p : Plan) (laid : Laid (q .shape) (q .cables) (answers p)) where
+    pub no-limits : (x : ℕ × Layer × ℕ) → faults x ≡ limited (q .run) p → Answered bs (faults x)
+    no-limits x e = inl (q, read .0, read .1, read .2, (answers p, laid, ap (λ r. then r (λ l. answers (p, l))) e))
 
-    pub all : (l : Limits) → answers l ≡ at-line Network 2 (limits-verdict p (q .run)) answers → Answered bs (answers (p, l))
-    all l e = inl (q, asks .0, asks .1, asks .2, goes-on Network 2 _ (limits-verdict p (q .run)) l e ∙ goes-on Layout 1 _ (laid (q .shape)) p is)
+    pub all : (l : Limits) → answers l ≡ limited (q .run) p → Answered bs (answers (p, l))
+    all l e = inl (q, read .0, read .1, read .2, (answers p, laid, ap (λ r. then r (λ m. answers (p, m))) e))

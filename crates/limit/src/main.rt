@@ -2,10 +2,12 @@
 // and prints the limits and the way of a lone flit between the nodes farthest apart.
 mod answer;
 
+use answer::Answer;
 use answer::reply;
 use bounds::limits::Limits;
 use bounds::path::farthest;
 use bounds::path::path;
+use cabled::cabled::CabledLayout;
 use fabric::layout::Layout;
 use fabric::mesh::MeshLayout;
 use fabric::parts::PortDisplay;
@@ -44,7 +46,10 @@ fn main(rt: LibcRuntime) -> Result<(), AnyError> {
     let mut text = Vec::new(rt.alloc());
     rt.stdin().take(MOST_READ).read_to_end(&mut text)?;
     match reply(text.as_slice()) {
-        Ok(found) => report(&rt, &found.mesh, found.limits),
+        Ok(answer) => match answer {
+            Answer::OnMesh(mesh, limits) => report(&rt, &mesh, limits),
+            Answer::OnCables(layout, limits) => report(&rt, &layout, limits),
+        },
         Err(fault) => {
             println!(rt, "{fault}")?;
             Ok(())

@@ -93,8 +93,9 @@ module _ (F : Fabric) (law : Lawful (F .plan)) (sw : Lawful-switch (F .turn)) (t
   arrive-both : (n : ℕ) (p : Port) (f g : Flit) → f .ticket ≡ t → left F P s n p ≡ Some f → r .slot n p ≡ Some g → g .ticket ≡ t → g .number ≡ f .number → g .destination ≡ f .destination →
       (m : ℕ) (q : Port) → leads-to F P s n p ≡ record { node = m; port = q } → (arriving F P s m q ≡ Some f) × (arriving F Q r m q ≡ Some g)
   arrive-both n p f g k e u v w d m q l =
-      let x = arrives F P s law n p f (left-ready F P s n p f e) in
-      let y = arrives F Q r law n p g (left-ready F Q r n p g (left-too F law sw t P s a Q r b there back n p f g k e u v w d)) in (
+      let h = a .inv .sits n p f (left-slot F P s n p f e) .exists in
+      let x = arrives F P s law n p f h (left-ready F P s n p f e) in
+      let y = arrives F Q r law n p g h (left-ready F Q r n p g (left-too F law sw t P s a Q r b there back n p f g k e u v w d)) in (
         sym (ap (λ (z : Slot). arriving F P s (z .node) (z .port)) l) ∙ x,
         sym (ap (λ (z : Slot). arriving F Q r (z .node) (z .port)) (same-way n p f e k ∙ l)) ∙ y,
       )

@@ -5,8 +5,7 @@ use mathlib.Core.List.{List, [], _∷_}
 use mathlib.Core.Bool.{Bool, true, false, cond}
 use mathlib.Core.Logic.{_⊎_, inl, inr, ⊎-elim}
 use native.Mathlib.Omega.{arith}
-use lib.Dec.{ltb}
-use Rattle.std.proofs.shelf.Tests.{cases-lt}
+use Rattle.std.proofs.shelf.Tests.{cases-lt, eq-eqb, ne-eqb}
 use Rattle.std.proofs.shelf.Ways.{tells}
 use Rattle.std.specs.declared.option.Option.{Option}
 use Rattle.std.specs.declared.option.Option.the-variants.{Some, None}
@@ -16,27 +15,9 @@ use Rattle.fabric.specs.declared.parts.Port.the-variants.{N, E, S, W}
 use Rattle.fabric.specs.Ports.{place-of}
 use Rattle.bounds.specs.declared.settings.Settings.{Settings}
 use Rattle.network.specs.Log.{packet, word, aim, sent, waiting}
-use Rattle.network.specs.Cycle.{Fabric, Places, State, Destined, Before, Takes, Changed, Remains, Next, First-empty, Lets-in, Filled}
-use Rattle.network.specs.Computed.{due, ahead, better, best, same-port, without, with-flit, or-else, if-empty, gap, next-of, placed}
-use Rattle.network.proofs.Places.{some-none, some-same, pair-some, same-port-itself, port-cases, due-from, due-here}
-
-pub place-same : (p q : Port) → place-of p ≡ place-of q → p ≡ q
-place-same N N e = refl
-place-same N E e = absurd (omega arith)
-place-same N S e = absurd (omega arith)
-place-same N W e = absurd (omega arith)
-place-same E N e = absurd (omega arith)
-place-same E E e = refl
-place-same E S e = absurd (omega arith)
-place-same E W e = absurd (omega arith)
-place-same S N e = absurd (omega arith)
-place-same S E e = absurd (omega arith)
-place-same S S e = refl
-place-same S W e = absurd (omega arith)
-place-same W N e = absurd (omega arith)
-place-same W E e = absurd (omega arith)
-place-same W S e = absurd (omega arith)
-place-same W W e = refl
+use Rattle.network.specs.Cycle.{Fabric, Places, State, golden-in, in-slot-order, wish-of, Before, Takes, Changed, Remains, Next, First-empty, Lets-in, Filled, Work, Works}
+use Rattle.network.specs.Computed.{due, ahead, better, best, same-port, without, with-flit, or-else, if-empty, gap, next-of, placed, taken, left, entering, ready, handing}
+use Rattle.network.proofs.Places.{some-none, some-same, pair-some, place-same, port-cases}
 
 place-small : (p : Port) → place-of p < 4
 place-small N = omega arith
@@ -47,6 +28,13 @@ place-small W = omega arith
 -- an earlier side, or this one
 earlier : (p q : Port) → place-of q < place-of p + 1 → (place-of q < place-of p) ⊎ (q ≡ p)
 earlier p q h = ⊎-elim inl (λ k. inr (place-same q p (omega arith))) (cases-lt (place-of q) (place-of p))
+
+due-from : (n : ℕ) (o : Option Flit) (f : Flit) → due n o ≡ Some f → (o ≡ Some f) × (f .destination ≡ n)
+due-from n None f e = some-none None f refl e
+due-from n (Some g) f e = grind (arith, tells)
+
+due-here : (n : ℕ) (o : Option Flit) (f : Flit) → o ≡ Some f → f .destination ≡ n → due n o ≡ Some f
+due-here n o f e d = grind (arith, tells)
 
 -- what the test of two flits says
 ahead-yes : (g : ℕ) (f h : Flit) → ahead g f h ≡ true → (f .ticket ≡ g) × (h .ticket ≡ g → f .number < h .number)
@@ -132,21 +120,16 @@ module _ (g n : ℕ) (slots : Places) where
       pair-some a (b .0) (b .1) e d
 
 module _ (p : Port) (o : Option Flit) (here : Places) where
-  pub changed-here : Changed p o here (λ q. cond (same-port p q) o (here q))
-  changed-here = record { there = rw (same-port-itself p) refl; others = λ q h. go q h (port-cases p q) }
-    where
-      go : (q : Port) → (q ≡ p → ⊥) → (p ≡ q) ⊎ (same-port p q ≡ false) → cond (same-port p q) o (here q) ≡ here q
-      go q h (inl e) = absurd (h (sym e))
-      go q h (inr e) = rw e refl
+  changed-here : Changed p o here (λ q. cond (same-port p q) o (here q))
+  changed-here = record {
+    there = rw (eq-eqb (place-of p) (place-of p) refl) refl;
+    others = λ q h. rw (ne-eqb (place-of p) (place-of q) (λ e. h (place-same q p (sym e)))) refl;
+  }
 
-  pub changed-one : (a b : Places) → Changed p o here a → Changed p o here b → a ≡ b
-  changed-one a b u v = fun-ext (λ q. go q (port-cases p q))
-    where
-      go : (q : Port) → (p ≡ q) ⊎ (same-port p q ≡ false) → a q ≡ b q
-      go q (inl e) = subst (λ (x : Port). a x ≡ b x) e (u .there ∙ sym (v .there))
-      go q (inr e) =
-          let apart : q ≡ p → ⊥ = λ k. let z : _≡_ {A = Bool} true false = sym (same-port-itself p) ∙ (subst (λ (x : Port). same-port p x ≡ false) k e) in let z : _≡_ {A = ℕ} 0 1 = cc in omega arith in
-          u .others q apart ∙ sym (v .others q apart)
+  changed-one : (a b : Places) → Changed p o here a → Changed p o here b → a ≡ b
+  changed-one a b u v = fun-ext (λ q. ⊎-elim
+      (λ e. subst (λ (x : Port). a x ≡ b x) (sym e) (u .there ∙ sym (v .there)))
+      (λ h. u .others q h ∙ sym (v .others q h)) (port-cases q p))
 
 pub remains-without : (b : Option (Port × Flit)) (here : Places) → Remains b here (without b here)
 remains-without None here = λ p. refl
@@ -164,58 +147,34 @@ pub filled-one : (b : Option (Port × Flit)) (here x y : Places) → Filled b he
 filled-one None here x y u v = fun-ext (λ p. u p ∙ sym (v p))
 filled-one (Some b) here x y u v = changed-one (b .0) (Some (b .1)) here x y u v
 
--- the first empty place, if there is one
-abbrev Gap : Places → Option Port → Type 0
-Gap here None = (p : Port) → here p ≡ None → ⊥
-Gap here (Some p) = First-empty here p
+module _ (here : Places) where
+  -- the first empty of the first k places
+  abbrev Gap : ℕ → Option Port → Type 0
+  Gap k None = (q : Port) → place-of q < k → here q ≡ None → ⊥
+  Gap k (Some p) = First-empty here p
 
-gap-law : (here : Places) → Gap here (gap here)
-gap-law here = go (here N) (here E) (here S) (here W) refl refl refl refl
-  where
-    full : (p : Port) (f : Flit) → here p ≡ Some f → here p ≡ None → ⊥
-    full p f u v = some-none (here p) f v u
+  gap-step : (p : Port) (acc : Option Port) → Gap (place-of p) acc → (o : Option Flit) → here p ≡ o → Gap (place-of p + 1) (or-else acc (if-empty o p))
+  gap-step p (Some q) u o e = u
+  gap-step p None u None e = record { empty = e; first = λ q h. ⊎-elim (λ k. absurd (u q k h)) (λ k. k) (cases-lt (place-of q) (place-of p)) }
+  gap-step p None u (Some f) e = λ q k h.
+      ⊎-elim (λ z. u q z h) (λ z. some-none (here q) f h (subst (λ (x : Port). here x ≡ Some f) (sym z) e)) (earlier p q k)
 
-    go : (a b c d : Option Flit) → here N ≡ a → here E ≡ b → here S ≡ c → here W ≡ d →
-        Gap here (or-else (if-empty a N) (or-else (if-empty b E) (or-else (if-empty c S) (if-empty d W))))
-    go None b c d p q r t = record { empty = p; first = λ x e. omega arith }
-    go (Some f) None c d p q r t = record { empty = q; first = late }
-      where
-        late : (x : Port) → here x ≡ None → 1 ≤ place-of x
-        late N e = absurd (full N f p e)
-        late E e = omega arith
-        late S e = omega arith
-        late W e = omega arith
-    go (Some f) (Some g) None d p q r t = record { empty = r; first = late }
-      where
-        late : (x : Port) → here x ≡ None → 2 ≤ place-of x
-        late N e = absurd (full N f p e)
-        late E e = absurd (full E g q e)
-        late S e = omega arith
-        late W e = omega arith
-    go (Some f) (Some g) (Some h) None p q r t = record { empty = t; first = late }
-      where
-        late : (x : Port) → here x ≡ None → 3 ≤ place-of x
-        late N e = absurd (full N f p e)
-        late E e = absurd (full E g q e)
-        late S e = absurd (full S h r e)
-        late W e = omega arith
-    go (Some f) (Some g) (Some h) (Some i) p q r t = none
-      where
-        none : (x : Port) → here x ≡ None → ⊥
-        none N e = full N f p e
-        none E e = full E g q e
-        none S e = full S h r e
-        none W e = full W i t e
+  gap-of-all : Gap 4 (gap here)
+  gap-of-all =
+      gap-step W (or-else (or-else (if-empty (here N) N) (if-empty (here E) E)) (if-empty (here S) S))
+      (gap-step S (or-else (if-empty (here N) N) (if-empty (here E) E))
+      (gap-step E (if-empty (here N) N)
+      (gap-step N None (λ q k. absurd (omega arith)) (here N) refl) (here E) refl) (here S) refl) (here W) refl
 
 module _ (F : Fabric) (P : Settings) (s : State) (n : ℕ) (here : Places) where
-  lets-gap : (o : Option Port) → Gap here o → (ts : List ℕ) → waiting (P .tickets) n (s .log) ≡ ts → Lets-in P s n here (placed F P s o (next-of F P s ts))
+  lets-gap : (o : Option Port) → Gap here 4 o → (ts : List ℕ) → waiting (P .tickets) n (s .log) ≡ ts → Lets-in P s n here (placed F P s o (next-of F P s ts))
   lets-gap None e [] w = inl w
-  lets-gap None e (t ∷ ts) w = inr e
+  lets-gap None e (t ∷ ts) w = inr (λ p. e p (place-small p))
   lets-gap (Some p) e [] w = inl w
   lets-gap (Some p) e (t ∷ ts) w = (e, record { others = ts; ticket = w; number = refl; destination = refl; its-word = refl; now = refl })
 
   pub lets-first : Lets-in P s n here (placed F P s (gap here) (next-of F P s (waiting (P .tickets) n (s .log))))
-  lets-first = lets-gap (gap here) (gap-law here) (waiting (P .tickets) n (s .log)) refl
+  lets-first = lets-gap (gap here) (gap-of-all here) (waiting (P .tickets) n (s .log)) refl
 
   next-one : (f h : Flit) → Next P s n f → Next P s n h → f ≡ h
   next-one f h u v =
@@ -240,3 +199,45 @@ module _ (F : Fabric) (P : Settings) (s : State) (n : ℕ) (here : Places) where
   lets-one None (Some b) u v = absurd (not-none b u v)
   lets-one (Some a) None u v = absurd (not-none a v u)
   lets-one (Some a) (Some b) u v = pair-some a (b .0) (b .1) (first-one (a .0) (b .0) (u .0) (v .0)) (next-one (a .1) (b .1) (u .1) (v .1))
+
+module _ (F : Fabric) (P : Settings) (s : State) where
+  abbrev pub computed : ℕ → Work
+  computed n = record { off = taken F P s n; left = left F P s n; entry = entering F P s n; ready = ready F P s n; handing = handing F P s n }
+
+  -- what a node computes is its work, and it has no other
+  pub work-is : (n : ℕ) → Works F P s n (computed n)
+  unfolding taken left entering ready handing
+  work-is n = record {
+    takes-off = takes-best (golden-in F P (s .cycles)) n (s .slot n);
+    remains = remains-without (taken F P s n) (s .slot n);
+    lets-in = lets-first F P s n (left F P s n);
+    fills = filled-with (entering F P s n) (left F P s n);
+    places = refl;
+    wishes = refl;
+    golden = refl;
+    draws = refl;
+  }
+
+  pub work-one : (n : ℕ) (w : Work) → Works F P s n w → w ≡ computed n
+  work-one n w k =
+      let c : Works F P s n (computed n) = work-is n in
+      let a : w .off ≡ taken F P s n = takes-one (golden-in F P (s .cycles)) n (s .slot n) (w .off) (taken F P s n) (k .takes-off) (c .takes-off) in
+      let b : w .left ≡ left F P s n =
+      remains-one (taken F P s n) (s .slot n) (w .left) (left F P s n)
+      (subst (λ (o : Option (Port × Flit)). Remains o (s .slot n) (w .left)) a (k .remains)) (c .remains) in
+      let d : w .entry ≡ entering F P s n =
+      lets-one F P s n (left F P s n) (w .entry) (entering F P s n)
+      (subst (λ (x : Places). Lets-in P s n x (w .entry)) b (k .lets-in)) (c .lets-in) in
+      let filled : Filled (entering F P s n) (left F P s n) (w .ready) = subst (λ (o : Option (Port × Flit)). Filled o (left F P s n) (w .ready)) d (subst (λ (x : Places). Filled (w .entry) x (w .ready)) b (k .fills)) in
+      let e : w .ready ≡ ready F P s n = filled-one (entering F P s n) (left F P s n) (w .ready) (ready F P s n) filled (c .fills) in
+      let p = k .places ∙ (ap (λ (x : Places). in-slot-order x) e ∙ sym (c .places)) in
+      let q = k .wishes ∙ (ap (λ (x : Places). in-slot-order (λ p. wish-of F n (x p))) e ∙ sym (c .wishes)) in
+      let g = k .golden ∙ sym (c .golden) in
+      let r = k .draws ∙ sym (c .draws) in
+      λ i. record {
+        off = a i;
+        left = b i;
+        entry = d i;
+        ready = e i;
+        handing = record { places = p i; wishes = q i; golden = g i; draws = r i };
+      }

@@ -13,21 +13,18 @@ use Rattle.std.specs.declared.option.Option.{Option}
 use Rattle.std.specs.declared.option.Option.the-variants.{Some, None}
 use Rattle.fabric.specs.declared.parts.Flit.{Flit}
 use Rattle.fabric.specs.declared.parts.Port.{Port}
-use Rattle.fabric.specs.declared.parts.Slot.{Slot}
 use Rattle.fabric.specs.Layouts.{Lawful}
-use Rattle.fabric.proofs.Following.{far-exists}
-use Rattle.network.specs.Log.{Log, packet, word, aim, sent, waiting}
-use Rattle.network.specs.Log.Happening.{entered}
+use Rattle.network.specs.Log.{Log, Packet, packet, word, aim, sent, waiting}
 use Rattle.bounds.specs.declared.settings.Settings.{Settings}
 use Rattle.bounds.specs.SetUp.{all-tickets}
-use Rattle.network.specs.Cycle.{Fabric, State, off-at, entered-at}
-use Rattle.network.specs.Computed.{taken, left, entering, ready, handing, arriving, done, cycled}
+use Rattle.network.specs.Cycle.{Fabric, State, Next, off-at, entered-at}
+use Rattle.network.specs.Computed.{taken, left, entering, ready, arriving, done, cycled}
 use Rattle.network.proofs.Places.{some-none, some-pair}
-use Rattle.network.proofs.Nodes.{taken-here, slot-split, left-slot, left-gone, Enters, enters, ready-split, left-ready, entering-ready, leads-to, arrives, came}
+use Rattle.network.proofs.Nodes.{taken-here, slot-split, left-slot, left-gone, enters, ready-split, left-ready, entering-ready, leads-to, arrives, came}
 use Rattle.network.proofs.Invariant.{Waits, Inv, Each}
 use Rattle.network.proofs.Moving.{Slots, inv-move}
 use Rattle.network.proofs.Taking.{inv-take}
-use Rattle.network.proofs.Entering.{Next, inv-enter}
+use Rattle.network.proofs.Entering.{inv-enter}
 
 -- a ticket is one of an existing node
 pub ticket-node : (F : Fabric) (P : Settings) (t : ℕ) → t < all-tickets (F .plan) P → t / P .tickets < F .plan .nodes
@@ -94,9 +91,9 @@ module _ (F : Fabric) (P : Settings) (s : State) where
     -- what enters at a node waited there
     pub waited : (k : ℕ) (p : Port) (f : Flit) → entering F P s k ≡ Some (p, f) → Waits P (s .log) k (f .ticket)
     waited k p f e =
-        let z = enters F P s k p f e in
-        let w : Each (Waits P (s .log) k) (z .first ∷ z .rest) = subst (λ (x : List ℕ). Each (Waits P (s .log) k) x) (z .queue) (i .queue k) in
-        subst (λ (x : ℕ). Waits P (s .log) k x) (sym (ap (λ (x : Flit). x .ticket) (z .is))) (w .0)
+        let z = enters F P s k p f e .1 in
+        let w : Each (Waits P (s .log) k) (f .ticket ∷ z .others) = subst (λ (x : List ℕ). Each (Waits P (s .log) k) x) (z .ticket) (i .queue k) in
+        w .0
 
     pub keeps-sent : (k t : ℕ) → k ≤ t / P .tickets → sent t (grown k) ≡ sent t (s .log)
     keeps-sent zero t h = rw grown-none
@@ -208,22 +205,16 @@ module _ (F : Fabric) (P : Settings) (s : State) where
     next-of-half : (k : ℕ) (p : Port) (f : Flit) → entering F P s k ≡ Some (p, f) → Next P (half k) k f
     next-of-half k p f e =
         record {
-          rest = z .rest;
-          queue = off-waiting k k (taken F P s k) (grown k) ∙ keeps-waiting k k (omega arith) ∙ z .queue ∙ ap (λ (x : ℕ). x ∷ z .rest) (sym t);
-          number = number ∙ sym sent-is;
-          destination = ap (λ (x : Flit). x .destination) (z .is) ∙ ap (λ (x : ℕ). aim (packet x (s .log))) (sym t) ∙ ap (λ (x : Option Rattle.network.specs.Log.Packet). aim x) (sym packet-is);
-          word = ap (λ (x : Flit). x .word) (z .is) ∙ (λ j. word (packet (sym t j) (s .log)) (sent (sym t j) (s .log))) ∙ (λ j. word (sym packet-is j) (sym number j));
-          entered = ap (λ (x : Flit). x .entered) (z .is);
+          others = z .others;
+          ticket = off-waiting k k (taken F P s k) (grown k) ∙ keeps-waiting k k (omega arith) ∙ z .ticket;
+          number = z .number ∙ sym sent-is;
+          destination = z .destination ∙ ap aim (sym packet-is);
+          its-word = z .its-word ∙ ap (λ (x : Option Packet). word x (f .number)) (sym packet-is);
+          now = z .now;
         }
       where
-        z : Enters F P s k p f
-        z = enters F P s k p f e
-
-        t : f .ticket ≡ z .first
-        t = ap (λ (x : Flit). x .ticket) (z .is)
-
-        number : f .number ≡ sent (f .ticket) (s .log)
-        number = ap (λ (x : Flit). x .number) (z .is) ∙ ap (λ (x : ℕ). sent x (s .log)) (sym t)
+        z : Next P s k f
+        z = enters F P s k p f e .1
 
         packet-is : packet (f .ticket) (half-log k) ≡ packet (f .ticket) (s .log)
         packet-is = off-packet (f .ticket) k (taken F P s k) (grown k) ∙ keeps-packet k (f .ticket)
@@ -296,13 +287,11 @@ module _ (F : Fabric) (P : Settings) (s : State) where
         inv-move F P (stage (F .plan .nodes)) (F .plan .nodes) all (arriving F P s)
         (record {
           to = leads-to F P s;
-          ahead = λ n p f u. arrives F P s law n p f (sym (stage-done (F .plan .nodes) n p (all .sits n p f u .exists)) ∙ u);
+          ahead = λ n p f u. arrives F P s law n p f (all .sits n p f u .exists) (sym (stage-done (F .plan .nodes) n p (all .sits n p f u .exists)) ∙ u);
           back = λ m q f u.
               let z = came F P s law m q f u in
-              (z .node, z .port, stage-done (F .plan .nodes) (z .node) (z .port) (ready-exists (z .node) (z .port) f (z .there)) ∙ z .there, z .led);
-          exists = λ m q f u.
-              let z = came F P s law m q f u in
-              subst (λ (x : Slot). x .node < F .plan .nodes) (z .led) (far-exists (F .plan) law (z .node) (F .turn (handing F P s (z .node)) .to (z .port)) (ready-exists (z .node) (z .port) f (z .there)));
+              (z .node, z .port, stage-done (F .plan .nodes) (z .node) (z .port) (z .exists) ∙ z .there, z .led);
+          exists = λ m q f u. came F P s law m q f u .to-exists;
         })
         (s .cycles + 1) 0 (λ a b h. (let y = h .0 in omega arith, λ u. let y = h .0 in absurd (omega arith)))
       where

@@ -17,7 +17,7 @@ use Rattle.fabric.specs.declared.parts.Port.{Port}
 use Rattle.network.specs.Log.{Log, Packet, packet, size, word, aim, sent, waiting}
 use Rattle.network.specs.Log.Happening.{entered, off, collected}
 use Rattle.bounds.specs.declared.settings.Settings.{Settings}
-use Rattle.network.specs.Cycle.{Fabric, State}
+use Rattle.network.specs.Cycle.{Fabric, State, Next}
 use Rattle.network.specs.Promises.{Same, Stands, Off-once, Never-off, In-one-slot, In-no-slot, Of-packet, Offered-last}
 use Rattle.network.proofs.Stand.{stands-now, stands-later, stands-cases, stands-older, Other, never-more, once-more}
 use Rattle.network.proofs.Invariant.{Sits, Waits, Inv, Each, Distinct, each-map, each-both}
@@ -29,15 +29,6 @@ pub record Added (F : Fabric) (old new : Slots) (n : ℕ) (p : Port) (f : Flit) 
   pub there : new n p ≡ Some f
   pub stays : (m : ℕ) (q : Port) (g : Flit) → old m q ≡ Some g → new m q ≡ Some g
   pub back : (m : ℕ) (q : Port) (g : Flit) → new m q ≡ Some g → ((m ≡ n) × (q ≡ p) × (g ≡ f)) ⊎ (old m q ≡ Some g)
-
--- the next flit of the first packet that waits at a node
-pub record Next (P : Settings) (s : State) (n : ℕ) (f : Flit) : Type 0 where
-  pub rest : List ℕ
-  pub queue : waiting (P .tickets) n (s .log) ≡ f .ticket ∷ rest
-  pub number : f .number ≡ sent (f .ticket) (s .log)
-  pub destination : f .destination ≡ aim (packet (f .ticket) (s .log))
-  pub word : f .word ≡ Rattle.network.specs.Log.word (packet (f .ticket) (s .log)) (f .number)
-  pub entered : f .entered ≡ s .cycles
 
 entered-off : {f g : Flit} {n m c : ℕ} → entered f n ≡ off g m c → ⊥
 entered-off e = let z : _≡_ {A = ℕ} 0 1 = cc in omega arith
@@ -69,11 +60,11 @@ module _ (F : Fabric) (P : Settings) (s : State) (n : ℕ) (i : Inv F P s n) (ne
   abbrev now : State
   now = record { cycles = s .cycles; slot = new; log = log }
 
-  queued : Each (Waits P (s .log) n) (f .ticket ∷ nx .rest)
-  queued = subst (λ (x : List ℕ). Each (Waits P (s .log) n) x) (nx .queue) (i .queue n)
+  queued : Each (Waits P (s .log) n) (f .ticket ∷ nx .others)
+  queued = subst (λ (x : List ℕ). Each (Waits P (s .log) n) x) (nx .ticket) (i .queue n)
 
-  apart : Distinct (f .ticket ∷ nx .rest)
-  apart = subst (λ (x : List ℕ). Distinct x) (nx .queue) (i .queue-apart n)
+  apart : Distinct (f .ticket ∷ nx .others)
+  apart = subst (λ (x : List ℕ). Distinct x) (nx .ticket) (i .queue-apart n)
 
   fits : f .number < size (packet (f .ticket) (s .log))
   fits = rw (nx .number) (queued .0 .more)
@@ -87,7 +78,7 @@ module _ (F : Fabric) (P : Settings) (s : State) (n : ℕ) (i : Inv F P s n) (ne
 
   not-same : (g : Flit) (m : ℕ) → Stands (entered g m) (s .log) → Same g f → ⊥
   not-same g m e u =
-      let a = i .timely g m e .1 (u .since ∙ nx .entered) in
+      let a = i .timely g m e .1 (u .since ∙ nx .now) in
       let b : g .ticket / P .tickets ≡ n = ap (λ (x : ℕ). x / P .tickets) (u .ticket) ∙ queued .0 .node in
       omega arith
 
@@ -106,7 +97,7 @@ module _ (F : Fabric) (P : Settings) (s : State) (n : ℕ) (i : Inv F P s n) (ne
         open-ticket = queued .0 .open-ticket;
         was-sent = rw (eq-eqb (f .ticket) (f .ticket) refl, nx .number) (omega arith);
         in-size = fits;
-        word-is = nx .word;
+        word-is = nx .its-word;
         unreceived = i .unsent (f .ticket) (f .number) (queued .0 .open-ticket) (omega (arith, nx .number));
         goes = rw (nx .destination) (i .opens (f .ticket) (queued .0 .open-ticket) .goes);
         from = n;
@@ -162,7 +153,7 @@ module _ (F : Fabric) (P : Settings) (s : State) (n : ℕ) (i : Inv F P s n) (ne
           let w : g .number ≡ f .number = ap (λ (z : Flit). z .number) (c .2) in
           let z = last b y h d (sym t ∙ ap (λ (z : Flit). z .ticket) (c .2)) in absurd (omega arith)
       go (inr c) (inl d) =
-          let w : h .entered ≡ s .cycles = ap (λ (z : Flit). z .entered) (d .2) ∙ nx .entered in
+          let w : h .entered ≡ s .cycles = ap (λ (z : Flit). z .entered) (d .2) ∙ nx .now in
           let z = i .sits a x g c in
           let y = i .timely g (z .from) (z .was-entered) .0 in omega arith
       go (inr c) (inr d) = i .in-turn a b x y g h c d t k
@@ -177,11 +168,11 @@ module _ (F : Fabric) (P : Settings) (s : State) (n : ℕ) (i : Inv F P s n) (ne
   queue-here : (m : ℕ) → n ≡ m → Each (Waits P log m) (waiting (P .tickets) m log) × Distinct (waiting (P .tickets) m log)
   queue-here m e = go (cases-bool (eqb (f .number + 1) (size (packet (f .ticket) (s .log)))))
     where
-      q : waiting (P .tickets) m (s .log) ≡ f .ticket ∷ nx .rest
-      q = subst (λ (x : ℕ). waiting (P .tickets) x (s .log) ≡ f .ticket ∷ nx .rest) e (nx .queue)
+      q : waiting (P .tickets) m (s .log) ≡ f .ticket ∷ nx .others
+      q = subst (λ (x : ℕ). waiting (P .tickets) x (s .log) ≡ f .ticket ∷ nx .others) e (nx .ticket)
 
-      tail : Each (Waits P log m) (nx .rest)
-      tail = subst (λ (x : ℕ). Each (Waits P log x) (nx .rest)) e (others n (nx .rest) (queued .1) (apart .0))
+      tail : Each (Waits P log m) (nx .others)
+      tail = subst (λ (x : ℕ). Each (Waits P log x) (nx .others)) e (others n (nx .others) (queued .1) (apart .0))
 
       go : (eqb (f .number + 1) (size (packet (f .ticket) (s .log))) ≡ true) ⊎ (eqb (f .number + 1) (size (packet (f .ticket) (s .log))) ≡ false) →
           Each (Waits P log m) (waiting (P .tickets) m log) × Distinct (waiting (P .tickets) m log)
@@ -210,7 +201,7 @@ module _ (F : Fabric) (P : Settings) (s : State) (n : ℕ) (i : Inv F P s n) (ne
     where
       go : ((f ≡ g) × (e .older ≡ s .log)) ⊎ ((d : Stands (entered g m) (s .log)) × (d .older ≡ e .older)) → (g .entered ≤ s .cycles) × (g .entered ≡ s .cycles → g .ticket / P .tickets < n + 1)
       go (inl k) =
-          let a : g .entered ≡ s .cycles = ap (λ (x : Flit). x .entered) (sym (k .0)) ∙ nx .entered in
+          let a : g .entered ≡ s .cycles = ap (λ (x : Flit). x .entered) (sym (k .0)) ∙ nx .now in
           let b : g .ticket / P .tickets ≡ n = ap (λ (x : Flit). x .ticket / P .tickets) (sym (k .0)) ∙ queued .0 .node in
           (omega arith, λ _. omega arith)
       go (inr k) = let z = i .timely g m (k .0) in (z .0, λ u. let y = z .1 u in omega arith)
@@ -276,7 +267,7 @@ module _ (F : Fabric) (P : Settings) (s : State) (n : ℕ) (i : Inv F P s n) (ne
       go : ((f ≡ g) × (e .older ≡ s .log)) ⊎ ((d : Stands (entered g m) (s .log)) × (d .older ≡ e .older)) → Of-packet g (e .older)
       go (inl k) =
           subst (λ (x : Log). Of-packet g x) (sym (k .1)) (subst (λ (x : Flit). Of-packet x (s .log)) (k .0)
-          (of-packet f (s .log) (packet (f .ticket) (s .log)) refl (nx .destination) (nx .word) fits))
+          (of-packet f (s .log) (packet (f .ticket) (s .log)) refl (nx .destination) (nx .its-word) fits))
       go (inr k) = subst (λ (x : Log). Of-packet g x) (k .1) (i .carries g m (k .0))
 
   pub inv-enter : Inv F P now (n + 1)

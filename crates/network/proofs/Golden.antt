@@ -23,14 +23,13 @@ module _ (F : Fabric) (P : Settings) (s : State) (i : Inv F P s 0) where
   -- what enters comes after the flits of its ticket
   pub last-in : (n : ℕ) (p : Port) (f : Flit) → entering F P s n ≡ Some (p, f) → (m : ℕ) (q : Port) (g : Flit) → s .slot m q ≡ Some g → g .ticket ≡ f .ticket → g .number < f .number
   last-in n p f e m q g u t =
-      let z = enters F P s n p f e in
       let a : g .number < sent (g .ticket) (s .log) = i .sits m q g u .was-sent in
-      let b : f .number ≡ sent (z .first) (s .log) = ap (λ (x : Flit). x .number) (z .is) in
-      let c : sent (g .ticket) (s .log) ≡ sent (z .first) (s .log) = ap (λ (x : ℕ). sent x (s .log)) (t ∙ ap (λ (x : Flit). x .ticket) (z .is)) in
+      let b : f .number ≡ sent (f .ticket) (s .log) = enters F P s n p f e .1 .number in
+      let c : sent (g .ticket) (s .log) ≡ sent (f .ticket) (s .log) = ap (λ (x : ℕ). sent x (s .log)) t in
       omega arith
 
   pub enters-now : (n : ℕ) (p : Port) (f : Flit) → entering F P s n ≡ Some (p, f) → f .entered ≡ s .cycles
-  enters-now n p f e = ap (λ (x : Flit). x .entered) (enters F P s n p f e .is)
+  enters-now n p f e = enters F P s n p f e .1 .now
 
   ready-alone : (n : ℕ) (p q : Port) (f g : Flit) → ready F P s n p ≡ Some f → ready F P s n q ≡ Some g → f .ticket ≡ g .ticket → f .number ≡ g .number → p ≡ q
   ready-alone n p q f g u v t k = go (ready-split F P s n p f u) (ready-split F P s n q g v)

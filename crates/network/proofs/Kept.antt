@@ -20,7 +20,7 @@ use Rattle.network.specs.Log.{Log}
 use Rattle.network.specs.Log.Happening.{entered}
 use Rattle.network.specs.Cycle.{Fabric, State}
 use Rattle.network.specs.Runs.{Call}
-use Rattle.network.specs.Promises.{Stands, Off-once, Never-off, In-one-slot, In-no-slot, Begins, Alike, None-entered, Into-epoch, Together, Kept, Answered, Promised}
+use Rattle.network.specs.Promises.{Stands, Off-once, Never-off, In-one-slot, In-no-slot, Begins, Alike, None-entered, Into-epoch, Together, Kept, Promised}
 use Rattle.network.specs.Computed.{after}
 use Rattle.network.proofs.Stand.{stands-below}
 use Rattle.network.proofs.Places.{some-same}
@@ -29,7 +29,8 @@ use Rattle.network.proofs.Running.{peel, invariant}
 use Rattle.network.proofs.Delivery.{delivered}
 use Rattle.network.proofs.Alikes.{Tied}
 use Rattle.network.proofs.Undisturbed.{Grew, grew, follow}
-use Rattle.network.proofs.Solving.{answered, clear-after, led, led-one, all-told}
+use Rattle.network.proofs.Seen.{seen}
+use Rattle.network.proofs.Solving.{answered, led, led-one, all-told}
 
 -- what set-up has seen to
 pub record Accepted (F : Fabric) (P : Settings) : Type 0 where
@@ -131,5 +132,6 @@ module _ (F : Fabric) (P : Settings) (law : Lawful (F .plan)) (sw : Lawful-switc
     leads = led F P law run;
     only = λ s l. led-one F P law l;
     kept = λ s l. subst (Kept F P run) (sym (led-one F P law l)) kept-after;
-    answered = λ s l. subst (λ (x : State). (k : Call) → Answered F P x k) (sym (led-one F P law l)) (answered F P law (after F P run) (clear-after F P law run));
+    answered = answered F P law;
+    seen = λ s q q′ k r v. seen F P v;
   }

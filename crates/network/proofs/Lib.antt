@@ -16,3 +16,4 @@ pub mod Choosing
 pub mod Solving
 pub mod Kept
 pub mod Granting
+pub mod Seen

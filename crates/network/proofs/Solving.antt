@@ -1,190 +1,138 @@
 -- The computed cycle, outcome and run are the one solution of the relations.
-use Prim.Native.Nat.{ℕ, zero, suc, _+_, _≤_, _<_}
-use mathlib.Core.Path.{_≡_, refl, sym, ap, ap₂, subst, _∙_, fun-ext}
+use Prim.Native.Nat.{ℕ, zero, suc, _<_}
+use mathlib.Core.Path.{_≡_, refl, sym, ap, ap₂, subst, _∙_}
 use mathlib.Core.List.{List, [], _∷_, _++_, append-assoc, append-nil}
 use mathlib.Core.Logic.{_⊎_, inl, inr}
 use native.Mathlib.Omega.{arith}
 use Rattle.std.proofs.shelf.Tests.{cases-lt}
-use Rattle.std.specs.declared.option.Option.{Option}
-use Rattle.std.specs.declared.option.Option.the-variants.{Some, None}
-use Rattle.fabric.specs.declared.parts.Flit.{Flit}
 use Rattle.fabric.specs.declared.parts.Port.{Port}
 use Rattle.fabric.specs.declared.parts.Slot.{Slot}
 use Rattle.fabric.specs.Layouts.{Exists, Missing, Lawful}
 use Rattle.fabric.specs.Verdicts.{Verdict, granting}
 use Rattle.fabric.specs.Verdicts.Verdict.{granted, refused}
 use Rattle.fabric.proofs.Following.{far-exists}
-use Rattle.switch.specs.Switches.{Handing, at, turned}
+use Rattle.switch.specs.Switches.{at, turned}
 use Rattle.line.specs.Queues.{Queue}
 use Rattle.bounds.specs.declared.settings.Settings.{Settings}
 use Rattle.network.specs.declared.event.Event.{Event}
 use Rattle.network.specs.Log.{Log}
 use Rattle.network.specs.Log.Happening.{offered, entered, off, collected}
-use Rattle.network.specs.Cycle.{Fabric, Places, State, golden-in, in-slot-order, wish-of, Remains, Lets-in, Filled, Work, Works, off-at, entered-at, news, Cycle, happened}
-use Rattle.network.specs.Runs.{Call, Outcome, ticket, offer-verdict, cycle-verdict, collection, collect-verdict, look-verdict, with-log, told, count-off, put-all, over, Serves, fresh, Leads}
+use Rattle.network.specs.Cycle.{Fabric, State, Work, off-at, entered-at, news, Cycle, happened}
+use Rattle.network.specs.Runs.{Call, Outcome, ticket, offer-verdict, cycle-verdict, collection, collect-verdict, with-log, told, count-off, put-all, over, Serves, Leads}
 use Rattle.network.specs.Runs.Call.{offer, cycle, collect, look}
-use Rattle.network.specs.Runs.Outcome.{offering, cycling, collecting, looking}
+use Rattle.network.specs.Runs.Outcome.{offering, cycling, collecting}
 use Rattle.network.specs.Runs.Serves.{offer-granted, offer-refused, cycle-granted, cycle-refused, collect-granted, collect-refused, looks}
 use Rattle.network.specs.Runs.Leads.{set-up, one-more}
 use Rattle.network.specs.Promises.{puts, story, Answered}
-use Rattle.network.specs.Computed.{taken, left, entering, ready, handing, arriving, done, cycled, decided, next, outcome, after}
-use Rattle.network.proofs.Choosing.{takes-best, takes-one, remains-without, remains-one, lets-first, lets-one, filled-with, filled-one}
-use Rattle.network.proofs.Cycling.{inv-cycle}
-use Rattle.network.proofs.Running.{invariant}
+use Rattle.network.specs.Computed.{leaving, arriving, done, cycled, decided, next, outcome, after}
+use Rattle.network.proofs.Choosing.{computed, work-is, work-one}
+use Rattle.network.proofs.Nodes.{arriving-is, arriving-none}
 
 module _ (F : Fabric) (P : Settings) where
   module _ (s : State) where
-    computed : ℕ → Work
-    computed n = record { takes = taken F P s n; remaining = left F P s n; lets-in = entering F P s n; ready = ready F P s n; handing = handing F P s n }
-
-    -- what a node computes is its work, and it has no other
-    work-is : (n : ℕ) → Works F P s n (computed n)
-    unfolding computed taken left entering ready handing
-    work-is n = record {
-      taking-off = takes-best (golden-in F P (s .cycles)) n (s .slot n);
-      remaining = remains-without (taken F P s n) (s .slot n);
-      entering = lets-first F P s n (left F P s n);
-      filled = filled-with (entering F P s n) (left F P s n);
-      places = refl;
-      wishes = refl;
-      golden = refl;
-      drawing = refl;
-    }
-
-    work-one : (n : ℕ) (w : Work) → Works F P s n w → w ≡ computed n
-    unfolding computed
-    work-one n w k =
-        let c : Works F P s n (computed n) = work-is n in
-        let a : w .takes ≡ taken F P s n = takes-one (golden-in F P (s .cycles)) n (s .slot n) (w .takes) (taken F P s n) (k .taking-off) (c .taking-off) in
-        let b : w .remaining ≡ left F P s n =
-        remains-one (taken F P s n) (s .slot n) (w .remaining) (left F P s n)
-        (subst (λ (o : Option (Port × Flit)). Remains o (s .slot n) (w .remaining)) a (k .remaining)) (c .remaining) in
-        let d : w .lets-in ≡ entering F P s n =
-        lets-one F P s n (left F P s n) (w .lets-in) (entering F P s n)
-        (subst (λ (x : Places). Lets-in P s n x (w .lets-in)) b (k .entering)) (c .entering) in
-        let filled : Filled (entering F P s n) (left F P s n) (w .ready) = subst (λ (o : Option (Port × Flit)). Filled o (left F P s n) (w .ready)) d (subst (λ (x : Places). Filled (w .lets-in) x (w .ready)) b (k .filled)) in
-        let e : w .ready ≡ ready F P s n = filled-one (entering F P s n) (left F P s n) (w .ready) (ready F P s n) filled (c .filled) in
-        let p = k .places ∙ (ap (λ (x : Places). in-slot-order x) e ∙ sym (c .places)) in
-        let q = k .wishes ∙ (ap (λ (x : Places). in-slot-order (λ p. wish-of F n (x p))) e ∙ sym (c .wishes)) in
-        let g = k .golden ∙ sym (c .golden) in
-        let r = k .drawing ∙ sym (c .drawing) in
-        λ i. record {
-          takes = a i;
-          remaining = b i;
-          lets-in = d i;
-          ready = e i;
-          handing = record { places = p i; wishes = q i; golden = g i; draws = r i };
-        }
-
-    news-done : (work : ℕ → Work) (m : ℕ) → ((n : ℕ) → n < m → work n ≡ computed n) → news (s .cycles) work m ≡ done F P s m
-    unfolding computed done
+    news-done : (work : ℕ → Work) (m : ℕ) → ((n : ℕ) → n < m → work n ≡ computed F P s n) → news (s .cycles) work m ≡ done F P s m
+    unfolding done
     news-done work zero h = refl
     news-done work (suc m) h =
-        ap₂ (λ (w : Work) (l : Log). entered-at m (w .lets-in) ++ (off-at (s .cycles) m (w .takes) ++ l)) (h m (omega arith)) (news-done work m (λ n k. h n (omega arith)))
+        ap₂ (λ (w : Work) (l : Log). entered-at m (w .entry) ++ (off-at (s .cycles) m (w .off) ++ l)) (h m (omega arith)) (news-done work m (λ n k. h n (omega arith)))
 
-    -- no flit is at a node that is missing
-    abbrev Clear : Type 0
-    Clear = (m : ℕ) (q : Port) → Missing (F .plan) m → arriving F P s m q ≡ None
-
-    module _ (law : Lawful (F .plan)) (clear : Clear) where
-      cycle-is : Cycle F P s (cycled F P s)
-      unfolding computed arriving
+    module _ (law : Lawful (F .plan)) where
+      pub cycle-is : Cycle F P s (cycled F P s)
       cycle-is = record {
-        work = computed;
-        works = λ n h. work-is n;
+        work = computed F P s;
+        works = λ n h. work-is F P s n;
         arrives = λ n p h.
-            ap (λ (x : Slot). at (turned (F .turn (handing F P s (x .node))) (handing F P s (x .node) .places)) (x .port)) (law .back n p h);
-        nothing-else = clear;
+            arriving-is F P s (F .plan .far n p .node) (F .plan .far n p .port) (far-exists (F .plan) law n p h)
+            ∙ ap (λ (x : Slot). leaving F P s (x .node) (x .port)) (law .back n p h);
+        nothing-else = arriving-none F P s;
         counted = refl;
-        logged = ap (λ (l : Log). l ++ s .log) (sym (news-done computed (F .plan .nodes) (λ n h. refl)));
+        logged = ap (λ (l : Log). l ++ s .log) (sym (news-done (computed F P s) (F .plan .nodes) (λ n h. refl)));
       }
 
       happened-is : (r : State) (c : Cycle F P s r) → happened c ≡ done F P s (F .plan .nodes)
-      happened-is r c = news-done (c .work) (F .plan .nodes) (λ n h. work-one n (c .work n) (c .works n h))
+      happened-is r c = news-done (c .work) (F .plan .nodes) (λ n h. work-one F P s n (c .work n) (c .works n h))
 
-      cycle-one : (r : State) → Cycle F P s r → r ≡ cycled F P s
-      unfolding arriving computed
+      pub cycle-one : (r : State) → Cycle F P s r → r ≡ cycled F P s
       cycle-one r c = λ i. record { cycles = c .counted i; slot = λ m q. same m q (cases-lt m (F .plan .nodes)) i; log = logged i }
         where
           logged : r .log ≡ done F P s (F .plan .nodes) ++ s .log
           logged = c .logged ∙ ap (λ (l : Log). l ++ s .log) (happened-is r c)
 
-          same : (m : ℕ) (q : Port) → (m < F .plan .nodes) ⊎ (F .plan .nodes ≤ m) → r .slot m q ≡ arriving F P s m q
+          same : (m : ℕ) (q : Port) → Exists (F .plan) m ⊎ Missing (F .plan) m → r .slot m q ≡ arriving F P s m q
           same m q (inl h) =
               let x : Slot = F .plan .far m q in
               let k = far-exists (F .plan) law m q h in
-              sym (ap (λ (y : Slot). r .slot (y .node) (y .port)) (law .back m q h)) ∙
-              (c .arrives (x .node) (x .port) k ∙
-              ap (λ (w : Work). at (turned (F .turn (w .handing)) (w .handing .places)) (x .port)) (work-one (x .node) (c .work (x .node)) (c .works (x .node) k)))
-          same m q (inr h) = c .nothing-else m q h ∙ sym (clear m q h)
+              sym (ap (λ (y : Slot). r .slot (y .node) (y .port)) (law .back m q h))
+              ∙ (c .arrives (x .node) (x .port) k
+              ∙ (ap (λ (w : Work). at (turned (F .turn (w .handing)) (w .handing .places)) (x .port)) (work-one F P s (x .node) (c .work (x .node)) (c .works (x .node) k))
+              ∙ sym (arriving-is F P s m q h)))
+          same m q (inr h) = c .nothing-else m q h ∙ sym (arriving-none F P s m q h)
 
   -- a call has one outcome and leads to one state
-  module _ (law : Lawful (F .plan)) (s : State) (clear : Clear s) where
-    pub served : (k : Call) → Serves F P s k (outcome F P s k) (next F P s k)
+  module _ (law : Lawful (F .plan)) (s : State) where
+    abbrev did : Log
+    did = done F P s (F .plan .nodes)
+
+    abbrev offer-leads : ℕ → ℕ → ℕ → List ℕ → Verdict (Unit {0}) → State
+    offer-leads n o d ws v = decided v (with-log F P s (offered (ticket F P n o) (record { destination = d; words = ws }))) s
+
+    abbrev cycle-answers : Queue Event → Verdict (Unit {0}) → Outcome
+    cycle-answers q v = cycling (granting (λ _. count-off did) v) (decided v (put-all q (told did)) q)
+
+    abbrev cycle-leads : Verdict (Unit {0}) → State
+    cycle-leads v = decided v (cycled F P s) s
+
+    abbrev collect-answers : ℕ → ℕ → List ℕ → Verdict ℕ → Outcome
+    collect-answers n o memory v = collecting v (decided v (over (collection F P s (ticket F P n o)) memory) memory)
+
+    abbrev collect-leads : ℕ → ℕ → ℕ → Verdict ℕ → State
+    collect-leads r n o v = decided v (with-log F P s (collected (ticket F P n o) r (collection F P s (ticket F P n o)))) s
+
+    served : (k : Call) → Serves F P s k (outcome F P s k) (next F P s k)
     served (offer n o d ws) = go (offer-verdict F P s n o d ws) refl
       where
-        go : (v : Verdict (Unit {0})) → offer-verdict F P s n o d ws ≡ v → Serves F P s (offer n o d ws) (offering v) (decided v (with-log F P s (offered (ticket F P n o) (record { destination = d; words = ws }))) s)
+        go : (v : Verdict (Unit {0})) → offer-verdict F P s n o d ws ≡ v → Serves F P s (offer n o d ws) (offering v) (offer-leads n o d ws v)
         go (granted tt) e = offer-granted e
         go (refused k vs) e = offer-refused e
     served (cycle q) = go (cycle-verdict F P s q) refl
       where
-        go : (v : Verdict (Unit {0})) → cycle-verdict F P s q ≡ v →
-            Serves F P s (cycle q) (cycling (granting (λ _. count-off (done F P s (F .plan .nodes))) v) (decided v (put-all q (told (done F P s (F .plan .nodes)))) q)) (decided v (cycled F P s) s)
+        go : (v : Verdict (Unit {0})) → cycle-verdict F P s q ≡ v → Serves F P s (cycle q) (cycle-answers q v) (cycle-leads v)
         go (granted tt) e =
             subst (λ (l : Log). Serves F P s (cycle q) (cycling (granted (count-off l)) (put-all q (told l))) (cycled F P s))
-            (happened-is s law clear (cycled F P s) (cycle-is s law clear)) (cycle-granted e (cycle-is s law clear))
+            (happened-is s law (cycled F P s) (cycle-is s law)) (cycle-granted e (cycle-is s law))
         go (refused k vs) e = cycle-refused e
     served (collect r n o memory) = go (collect-verdict F P s r n o memory) refl
       where
-        go : (v : Verdict ℕ) → collect-verdict F P s r n o memory ≡ v →
-            Serves F P s (collect r n o memory) (collecting v (decided v (over (collection F P s (ticket F P n o)) memory) memory)) (decided v (with-log F P s (collected (ticket F P n o) r (collection F P s (ticket F P n o)))) s)
+        go : (v : Verdict ℕ) → collect-verdict F P s r n o memory ≡ v → Serves F P s (collect r n o memory) (collect-answers n o memory v) (collect-leads r n o v)
         go (granted k) e = collect-granted e
         go (refused k vs) e = collect-refused e
     served (look n p) = looks
 
-    abbrev answers : Queue Event → Verdict (Unit {0}) → Outcome
-    answers q v = cycling (granting (λ _. count-off (done F P s (F .plan .nodes))) v) (decided v (put-all q (told (done F P s (F .plan .nodes)))) q)
-
-    abbrev brings : ℕ → ℕ → List ℕ → Verdict ℕ → Outcome
-    brings n o memory v = collecting v (decided v (over (collection F P s (ticket F P n o)) memory) memory)
-
-    abbrev leaves : ℕ → ℕ → ℕ → Verdict ℕ → State
-    leaves r n o v = decided v (with-log F P s (collected (ticket F P n o) r (collection F P s (ticket F P n o)))) s
-
     pub served-one : {k : Call} {o : Outcome} {r : State} → Serves F P s k o r → (o ≡ outcome F P s k) × (r ≡ next F P s k)
-    served-one (offer-granted {n} {o} {d} {ws} e) =
-        (ap offering (sym e), ap (λ (v : Verdict (Unit {0})). decided v (with-log F P s (offered (ticket F P n o) (record { destination = d; words = ws }))) s) (sym e))
-    served-one (offer-refused {n} {o} {d} {k} {ws} {vs} e) =
-        (ap offering (sym e), ap (λ (v : Verdict (Unit {0})). decided v (with-log F P s (offered (ticket F P n o) (record { destination = d; words = ws }))) s) (sym e))
+    served-one (offer-granted {n} {o} {d} {ws} e) = (ap offering (sym e), ap (offer-leads n o d ws) (sym e))
+    served-one (offer-refused {n} {o} {d} {k} {ws} {vs} e) = (ap offering (sym e), ap (offer-leads n o d ws) (sym e))
     served-one (cycle-granted {q} {r} e c) = (
-      ap (λ (l : Log). cycling (granted (count-off l)) (put-all q (told l))) (happened-is s law clear r c) ∙ ap (answers q) (sym e),
-      cycle-one s law clear r c ∙ ap (λ (v : Verdict (Unit {0})). decided v (cycled F P s) s) (sym e),
+      ap (λ (l : Log). cycling (granted (count-off l)) (put-all q (told l))) (happened-is s law r c) ∙ ap (cycle-answers q) (sym e),
+      cycle-one s law r c ∙ ap cycle-leads (sym e),
     )
-    served-one (cycle-refused {q} {k} {vs} e) = (ap (answers q) (sym e), ap (λ (v : Verdict (Unit {0})). decided v (cycled F P s) s) (sym e))
-    served-one (collect-granted {r} {n} {o} {k} {memory} e) = (ap (brings n o memory) (sym e), ap (leaves r n o) (sym e))
-    served-one (collect-refused {r} {n} {o} {k} {memory} {vs} e) = (ap (brings n o memory) (sym e), ap (leaves r n o) (sym e))
+    served-one (cycle-refused {q} {k} {vs} e) = (ap (cycle-answers q) (sym e), ap cycle-leads (sym e))
+    served-one (collect-granted {r} {n} {o} {k} {memory} e) = (ap (collect-answers n o memory) (sym e), ap (collect-leads r n o) (sym e))
+    served-one (collect-refused {r} {n} {o} {k} {memory} {vs} e) = (ap (collect-answers n o memory) (sym e), ap (collect-leads r n o) (sym e))
     served-one looks = (refl, refl)
 
     pub answered : (k : Call) → Answered F P s k
     answered k = record { outcome = outcome F P s k; state = next F P s k; served = served k; only = λ o r v. served-one v }
 
   module _ (law : Lawful (F .plan)) where
-    pub clear-after : (run : List Call) → Clear (after F P run)
-    clear-after run m q h = go (arriving F P (after F P run) m q) refl
-      where
-        go : (o : Option Flit) → arriving F P (after F P run) m q ≡ o → o ≡ None
-        go None e = refl
-        go (Some f) e = let k = inv-cycle F P (after F P run) (invariant F P law run) law .sits m q f e .exists in absurd (omega arith)
-
     -- a run leads to one state
     pub led : (run : List Call) → Leads F P run (after F P run)
     led [] = set-up
-    led (k ∷ run) = one-more (led run) (served law (after F P run) (clear-after run) k)
+    led (k ∷ run) = one-more (led run) (served law (after F P run) k)
 
     pub led-one : {run : List Call} {s : State} → Leads F P run s → s ≡ after F P run
     led-one set-up = refl
     led-one (one-more {run} {s} {r} {k} {o} l v) =
-        served-one law (after F P run) (clear-after run) (subst (λ (x : State). Serves F P x k o r) (led-one l) v) .1
+        served-one law (after F P run) (subst (λ (x : State). Serves F P x k o r) (led-one l) v) .1
 
   one-later : (a b c d : List Event) → a ≡ b ++ c → a ++ d ≡ b ++ (c ++ d)
   one-later a b c d e = ap (λ (x : List Event). x ++ d) e ∙ append-assoc b c d

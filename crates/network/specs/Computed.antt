@@ -1,20 +1,21 @@
 -- What one cycle, a call and a run come to, computed: the one solution of the relations in Cycle and Runs.
 use Prim.Native.Nat.{ℕ, _+_}
 use mathlib.Core.List.{List, [], _∷_, _++_}
-use mathlib.Core.Bool.{Bool, true, false, cond, _&&_, _||_, not}
+use mathlib.Core.Bool.{Bool, cond, _&&_, _||_, not}
 use lib.Dec.{eqb, ltb}
 use Rattle.std.specs.declared.option.Option.{Option}
 use Rattle.std.specs.declared.option.Option.the-variants.{Some, None}
 use Rattle.fabric.specs.declared.parts.Flit.{Flit}
 use Rattle.fabric.specs.declared.parts.Port.{Port}
 use Rattle.fabric.specs.declared.parts.Port.the-variants.{N, E, S, W}
+use Rattle.fabric.specs.Ports.{place-of}
 use Rattle.fabric.specs.Verdicts.{Verdict, granting}
 use Rattle.fabric.specs.Verdicts.Verdict.{granted, refused}
 use Rattle.switch.specs.Switches.{Handing, at, turned}
 use Rattle.bounds.specs.declared.settings.Settings.{Settings}
 use Rattle.network.specs.Log.{Log, packet, word, aim, sent, waiting}
 use Rattle.network.specs.Log.Happening.{offered, collected}
-use Rattle.network.specs.Cycle.{Fabric, Places, State, golden-in, in-slot-order, wish-of, draws, off-at, entered-at}
+use Rattle.network.specs.Cycle.{Fabric, Places, State, golden-in, in-slot-order, wish-of, draws-at, off-at, entered-at}
 use Rattle.network.specs.Runs.{Call, Outcome, ticket, offer-verdict, cycle-verdict, collection, collect-verdict, look-verdict, with-log, told, count-off, put-all, over, fresh}
 use Rattle.network.specs.Runs.Call.{offer, cycle, collect, look}
 use Rattle.network.specs.Runs.Outcome.{offering, cycling, collecting, looking}
@@ -39,22 +40,7 @@ abbrev pub best : ℕ → Places → Option (Port × Flit)
 best g here = better g (better g (better g (better g None N (here N)) E (here E)) S (here S)) W (here W)
 
 abbrev pub same-port : Port → Port → Bool
-same-port N N = true
-same-port N E = false
-same-port N S = false
-same-port N W = false
-same-port E N = false
-same-port E E = true
-same-port E S = false
-same-port E W = false
-same-port S N = false
-same-port S E = false
-same-port S S = true
-same-port S W = false
-same-port W N = false
-same-port W E = false
-same-port W S = false
-same-port W W = true
+same-port p q = eqb (place-of p) (place-of q)
 
 -- four places with one of them emptied, or filled
 abbrev pub without : Option (Port × Flit) → Places → Places
@@ -75,7 +61,7 @@ if-empty None p = Some p
 if-empty (Some f) p = None
 
 abbrev pub gap : Places → Option Port
-gap here = or-else (if-empty (here N) N) (or-else (if-empty (here E) E) (or-else (if-empty (here S) S) (if-empty (here W) W)))
+gap here = or-else (or-else (or-else (if-empty (here N) N) (if-empty (here E) E)) (if-empty (here S) S)) (if-empty (here W) W)
 
 module _ (F : Fabric) (P : Settings) (s : State) where
   unfoldable pub taken : ℕ → Option (Port × Flit)
@@ -112,14 +98,16 @@ module _ (F : Fabric) (P : Settings) (s : State) where
         places = in-slot-order (ready n);
         wishes = in-slot-order (λ p. wish-of F n (ready n p));
         golden = golden-in F P (s .cycles);
-        draws = draws F P s n;
+        draws = draws-at F P s n;
       }
 
-  -- what leaves the place at its far end
+  -- what leaves a node by its ports
+  abbrev pub leaving : ℕ → Places
+  leaving n p = at (turned (F .turn (handing n)) (handing n .places)) p
+
+  -- what leaves the place at its far end, if the node exists
   unfoldable pub arriving : ℕ → Places
-  arriving m q =
-      let from = F .plan .far m q in
-      at (turned (F .turn (handing (from .node))) (handing (from .node) .places)) (from .port)
+  arriving m q = cond (ltb m (F .plan .nodes)) (leaving (F .plan .far m q .node) (F .plan .far m q .port)) None
 
   -- what the nodes below n did, newest first
   unfoldable pub done : ℕ → Log

@@ -42,17 +42,17 @@ golden-in F P c = golden-ticket (all-tickets (F .plan) P) (P .epoch) c
 abbrev pub in-slot-order : {A : Type 0} → (Port → A) → List A
 in-slot-order x = x N ∷ x E ∷ x S ∷ x W ∷ []
 
--- Taking off.
+-- Step 1: taking off.
 
 -- a flit in a slot of node n, whose destination is this node
 abbrev pub Destined : ℕ → Places → Port → Flit → Type 0
 Destined n slots p f = (slots p ≡ Some f) × (f .destination ≡ n)
 
--- with g the golden ticket, flit f in slot p is taken off rather than h in slot q
+-- where ticket g is golden, flit f in slot p goes before h in slot q: the golden one of the lowest number, else the first in slot order
 pub record Before (g : ℕ) (p : Port) (f : Flit) (q : Port) (h : Flit) : Type 0 where
-  -- golden flits first, and of these the lower number
+  -- a golden flit is preceded only by a golden one of a number as low
   pub golden-first : h .ticket ≡ g → (f .ticket ≡ g) × (f .number ≤ h .number)
-  -- where that does not put f before h, slot order decides
+  -- where f is not ahead of h in this, it is in slot order
   pub else-first : (f .ticket ≡ g → (h .ticket ≡ g) × (h .number ≤ f .number)) → place-of p ≤ place-of q
 
 -- of the flits destined for the node, the one before all others; none if none is destined for it
@@ -70,7 +70,7 @@ abbrev pub Remains : Option (Port × Flit) → Places → Places → Type 0
 Remains None here then = (p : Port) → then p ≡ here p
 Remains (Some b) here then = Changed (b .0) None here then
 
--- Entering.
+-- Step 2: entering.
 
 -- the next flit of the packet that waits first at a node, with this cycle as its entry cycle
 pub record Next (P : Settings) (s : State) (n : ℕ) (f : Flit) : Type 0 where
@@ -95,39 +95,42 @@ abbrev pub Filled : Option (Port × Flit) → Places → Places → Type 0
 Filled None here then = (p : Port) → then p ≡ here p
 Filled (Some b) here then = Changed (b .0) (Some (b .1)) here then
 
--- Switching.
+-- Steps 3 and 4: drawing and switching.
 
 -- the wish of a flit at node n is its layout's, for its destination
 abbrev pub wish-of : Fabric → ℕ → Option Flit → Option Port
 wish-of F n None = None
 wish-of F n (Some f) = F .plan .wish n (f .destination)
 
--- the draw register has moved once for each node of the earlier cycles, once for each node before n and once for n
-abbrev pub draws : Fabric → Settings → State → ℕ → List Bool
-draws F P s n = draw-bits (register (P .seed) (s .cycles * F .plan .nodes + n + 1))
+-- the draw register has moved once for each node in each earlier cycle, and in this one for the nodes up to n
+abbrev pub draws-at : Fabric → Settings → State → ℕ → List Bool
+draws-at F P s n = draw-bits (register (P .seed) (s .cycles * F .plan .nodes + n + 1))
 
 -- what a node does in one cycle
 pub record Work : Type 0 where
-  -- the flit that it takes off, and its slot
-  pub takes : Option (Port × Flit)
-  pub remaining : Places
-  -- the flit that enters, and its slot
-  pub lets-in : Option (Port × Flit)
+  -- the flit that it takes off, with its slot
+  pub off : Option (Port × Flit)
+  -- what remains in the slots
+  pub left : Places
+  -- the flit that enters, with its slot
+  pub entry : Option (Port × Flit)
+  -- what then stands in the slots
   pub ready : Places
-  -- what it hands to the switch
+  -- what the switch is handed
   pub handing : Handing
 
+-- the work of node n, from the state before the cycle
 pub record Works (F : Fabric) (P : Settings) (s : State) (n : ℕ) (w : Work) : Type 0 where
-  pub taking-off : Takes (golden-in F P (s .cycles)) n (s .slot n) (w .takes)
-  pub remaining : Remains (w .takes) (s .slot n) (w .remaining)
-  pub entering : Lets-in P s n (w .remaining) (w .lets-in)
-  pub filled : Filled (w .lets-in) (w .remaining) (w .ready)
+  pub takes-off : Takes (golden-in F P (s .cycles)) n (s .slot n) (w .off)
+  pub remains : Remains (w .off) (s .slot n) (w .left)
+  pub lets-in : Lets-in P s n (w .left) (w .entry)
+  pub fills : Filled (w .entry) (w .left) (w .ready)
+  -- the four places in slot order, their wishes, the golden ticket of the cycle and the draw bits
   pub places : w .handing .places ≡ in-slot-order (w .ready)
   pub wishes : w .handing .wishes ≡ in-slot-order (λ p. wish-of F n (w .ready p))
   pub golden : w .handing .golden ≡ golden-in F P (s .cycles)
-  pub drawing : w .handing .draws ≡ draws F P s n
+  pub draws : w .handing .draws ≡ draws-at F P s n
 
--- what the nodes below n did in cycle c: nodes in rising number, at a node the taking off first; newest first
 abbrev pub off-at : ℕ → ℕ → Option (Port × Flit) → Log
 off-at c n None = []
 off-at c n (Some b) = off (b .1) n c ∷ []
@@ -136,9 +139,10 @@ abbrev pub entered-at : ℕ → Option (Port × Flit) → Log
 entered-at n None = []
 entered-at n (Some b) = entered (b .1) n ∷ []
 
+-- what the nodes below n did in cycle c, nodes in rising number, at a node the taking off first; the newest stands first
 abbrev pub news : ℕ → (ℕ → Work) → ℕ → Log
 news c work ℕ.zero = []
-news c work (ℕ.suc n) = entered-at n (work n .lets-in) ++ (off-at c n (work n .takes) ++ news c work n)
+news c work (ℕ.suc n) = entered-at n (work n .entry) ++ (off-at c n (work n .off) ++ news c work n)
 
 -- one cycle leads from s to r
 pub record Cycle (F : Fabric) (P : Settings) (s r : State) : Type 0 where
@@ -147,6 +151,7 @@ pub record Cycle (F : Fabric) (P : Settings) (s r : State) : Type 0 where
   -- what leaves a node by a port arrives at the port's far end
   pub arrives : (n : ℕ) (p : Port) → Exists (F .plan) n →
       r .slot (F .plan .far n p .node) (F .plan .far n p .port) ≡ at (turned (F .turn (work n .handing)) (work n .handing .places)) p
+  -- nodes that do not exist have nothing
   pub nothing-else : (n : ℕ) (p : Port) → Missing (F .plan) n → r .slot n p ≡ None
   pub counted : r .cycles ≡ s .cycles + 1
   pub logged : r .log ≡ news (s .cycles) work (F .plan .nodes) ++ s .log

@@ -10,6 +10,7 @@ use Rattle.fabric.specs.declared.parts.Port.{Port}
 use Rattle.fabric.specs.Layouts.{Plan, Exists, Lawful}
 use Rattle.fabric.specs.Verdicts.Verdict.{granted}
 use Rattle.switch.specs.Switches.{Lawful-switch}
+use Rattle.line.specs.Queues.{Queue, Sound, contents}
 use Rattle.bounds.specs.declared.settings.Settings.{Settings}
 use Rattle.bounds.specs.SetUp.{all-tickets, set-up-verdict}
 use Rattle.bounds.specs.Lateness.{latest}
@@ -18,6 +19,8 @@ use Rattle.network.specs.Log.{Happening, Log, Packet, packet}
 use Rattle.network.specs.Log.Happening.{offered, entered, off, collected}
 use Rattle.network.specs.Cycle.{Fabric, State, golden-in, happened}
 use Rattle.network.specs.Runs.{Call, Outcome, Serves, Leads, told}
+use Rattle.network.specs.Runs.Call.{cycle}
+use Rattle.network.specs.Runs.Outcome.{cycling}
 use Rattle.network.specs.Runs.Serves.{offer-granted, offer-refused, cycle-granted, cycle-refused, collect-granted, collect-refused, looks}
 use Rattle.network.specs.Runs.Leads.{set-up, one-more}
 
@@ -56,7 +59,7 @@ pub record In-one-slot (f : Flit) (s : State) : Type 0 where
 abbrev pub In-no-slot : Flit → State → Type 0
 In-no-slot f s = (n : ℕ) (p : Port) (g : Flit) → s .slot n p ≡ Some g → Same g f → ⊥
 
--- a flit carries the word at its number, and the destination, of its ticket's packet last accepted
+-- the packet last accepted under a flit's ticket has the flit's destination, and its word at the flit's number
 pub record Of-packet (f : Flit) (l : Log) : Type 0 where
   pub its : Packet
   pub accepted : packet (f .ticket) l ≡ Some its
@@ -72,7 +75,7 @@ pub record Offered-last (t : ℕ) (p : Packet) (l : Log) : Type 0 where
   pub no-offer : (q : Packet) → Stands (offered t q) (there .newer) → ⊥
   pub no-collection : (r : ℕ) (ws : List ℕ) → Stands (collected t r ws) (there .newer) → ⊥
 
--- the events that a call puts into the caller's line
+-- the events that a call puts into the caller's line, the oldest first
 abbrev pub puts : {F : Fabric} {P : Settings} {s : State} {k : Call} {o : Outcome} {r : State} → Serves F P s k o r → List Event
 puts (offer-granted v) = []
 puts (offer-refused v) = []
@@ -82,7 +85,7 @@ puts (collect-granted v) = []
 puts (collect-refused v) = []
 puts looks = []
 
--- and those of a run, the oldest first
+-- and those of a run
 abbrev pub story : {F : Fabric} {P : Settings} {run : List Call} {s : State} → Leads F P run s → List Event
 story set-up = []
 story (one-more l v) = story l ++ puts v
@@ -138,6 +141,7 @@ pub record Kept (F : Fabric) (P : Settings) (run : List Call) (s : State) : Type
   pub only-entered : (f : Flit) (n c : ℕ) → Stands (off f n c) (s .log) → (m : ℕ) × Stands (entered f m) (s .log)
   -- no two entries are one flit
   pub told-apart : (f g : Flit) (n m : ℕ) (e : Stands (entered f n) (s .log)) → Stands (entered g m) (e .older) → Same g f → ⊥
+  -- each flit carries the word and the destination of its ticket's packet last accepted before it entered
   pub carries : (f : Flit) (n : ℕ) (e : Stands (entered f n) (s .log)) → Of-packet f (e .older)
   -- collections bring accepted offers only, each at most once, at its destination, with exactly its words in order
   pub collections : (t r : ℕ) (ws : List ℕ) (e : Stands (collected t r ws) (s .log)) →
@@ -158,15 +162,19 @@ pub record Answered (F : Fabric) (P : Settings) (s : State) (k : Call) : Type 0 
   pub served : Serves F P s k outcome state
   pub only : (o : Outcome) (r : State) → Serves F P s k o r → (o ≡ outcome) × (r ≡ state)
 
+-- what is promised of a run
 pub record Promised (F : Fabric) (P : Settings) (run : List Call) : Type 0 where
   -- a run of calls leads to exactly one state
   pub state : State
   pub leads : Leads F P run state
   pub only : (s : State) → Leads F P run s → s ≡ state
   pub kept : (s : State) → Leads F P run s → Kept F P run s
-  pub answered : (s : State) → Leads F P run s → (k : Call) → Answered F P s k
+  pub answered : (s : State) (k : Call) → Answered F P s k
+  -- where a cycle is granted, its events come into the caller's line after what the line held
+  pub seen : (s : State) (q q′ : Queue Event) (k : ℕ) (r : State) (v : Serves F P s (cycle q) (cycling (granted k) q′) r) →
+      Sound q → contents q′ ≡ contents q ++ puts v
 
--- of every layout and every switch that keep their laws, every settings that set-up accepts, and every run of calls
+-- it is promised of every layout and every switch that keep their laws, all settings that set-up accepts, and every run of calls
 abbrev pub Always-kept : Type 0
 Always-kept = (F : Fabric) (P : Settings) → Lawful (F .plan) → Lawful-switch (F .turn) → set-up-verdict (F .plan) P ≡ granted tt →
     (run : List Call) → Promised F P run

@@ -37,18 +37,25 @@ pub data Outcome : Type 0 where
   collecting : Verdict ℕ → List ℕ → Outcome
   looking : Verdict (Option Flit) → Outcome
 
+-- the port of a number, in slot order
 abbrev pub port-of : ℕ → Port
 port-of ℕ.zero = N
 port-of (ℕ.suc ℕ.zero) = E
 port-of (ℕ.suc (ℕ.suc ℕ.zero)) = S
 port-of (ℕ.suc (ℕ.suc (ℕ.suc k))) = W
 
+abbrev pub event-in : Flit → ℕ → Event
+event-in f n = record { cycle = f .entered; kind = In; ticket = f .ticket; number = f .number; node = n; entered = f .entered }
+
+abbrev pub event-out : Flit → ℕ → ℕ → Event
+event-out f n c = record { cycle = c; kind = Out; ticket = f .ticket; number = f .number; node = n; entered = f .entered }
+
 -- what entered and what was taken off, as events, the oldest first
 abbrev pub told : Log → List Event
 told [] = []
 told (offered t p ∷ l) = told l
-told (entered f n ∷ l) = told l ++ (record { cycle = f .entered; kind = In; ticket = f .ticket; number = f .number; node = n; entered = f .entered } ∷ [])
-told (off f n c ∷ l) = told l ++ (record { cycle = c; kind = Out; ticket = f .ticket; number = f .number; node = n; entered = f .entered } ∷ [])
+told (entered f n ∷ l) = told l ++ (event-in f n ∷ [])
+told (off f n c ∷ l) = told l ++ (event-out f n c ∷ [])
 told (collected t r ws ∷ l) = told l
 
 -- how many flits were taken off
@@ -59,6 +66,7 @@ count-off (entered f n ∷ l) = count-off l
 count-off (off f n c ∷ l) = count-off l + 1
 count-off (collected t r ws ∷ l) = count-off l
 
+-- put into a line one after another
 abbrev pub put-all : {A : Type 0} → Queue A → List A → Queue A
 put-all q [] = q
 put-all q (x ∷ xs) = put-all (put q x) xs
@@ -75,6 +83,8 @@ module _ (F : Fabric) (P : Settings) where
   abbrev pub missing : ℕ → Bool
   missing n = leb (F .plan .nodes) n
 
+  -- 4: the node or its own ticket does not exist; 5: the destination does not exist or is the node itself;
+  -- 6: there are no words, or too many; 7: the ticket is not free
   abbrev pub offer-verdict : State → ℕ → ℕ → ℕ → List ℕ → Verdict (Unit {0})
   offer-verdict s n o d ws =
       judged
@@ -85,6 +95,7 @@ module _ (F : Fabric) (P : Settings) where
       ∷ [])
       tt
 
+  -- 10: so many cycles are carried out already; 11: the line lacks room for two events a node
   abbrev pub cycle-verdict : State → Queue Event → Verdict (Unit {0})
   cycle-verdict s q =
       judged
@@ -97,6 +108,8 @@ module _ (F : Fabric) (P : Settings) where
   abbrev pub collection : State → ℕ → List ℕ
   collection s t = gathered t (size (packet t (s .log))) (s .log)
 
+  -- 4: a node or the own ticket does not exist; 8: the ticket is not complete, or its packet has another destination;
+  -- 9: the memory is shorter than the packet
   abbrev pub collect-verdict : State → ℕ → ℕ → ℕ → List ℕ → Verdict ℕ
   collect-verdict s r n o memory =
       let t : ℕ = ticket n o in
@@ -107,10 +120,12 @@ module _ (F : Fabric) (P : Settings) where
       ∷ [])
       (size (packet t (s .log)))
 
+  -- 4: the node or the port does not exist
   abbrev pub look-verdict : State → ℕ → ℕ → Verdict (Option Flit)
   look-verdict s n p =
       judged ((4, missing n || leb 4 p) ∷ []) (s .slot n (port-of p))
 
+  -- the state with one happening more
   abbrev pub with-log : State → Happening → State
   with-log s h = record { cycles = s .cycles; slot = s .slot; log = h ∷ s .log }
 

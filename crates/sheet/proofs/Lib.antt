@@ -5,3 +5,5 @@ mod Numbers
 mod Parting
 mod Stopping
 mod Tidy
+mod Wiring
+mod Words

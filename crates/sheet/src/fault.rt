@@ -1,7 +1,7 @@
 // A fault of a text: why it is refused, by which layer, and at which line, counted from 1 (0 where no line is named).
 ghost use mathlib.Core.Path.{_≡_};
 ghost use Rattle.std.specs.declared.option.Option.the-variants.{Some};
-ghost use Rattle.sheet.specs.Faults.{told, too-long, ill-formed, layer-word, fault-line};
+ghost use Rattle.sheet.specs.Faults.{told, too-long, ill-formed, too-many, layer-word, fault-line};
 use fabric::refusal::Refusal;
 use fabric::refusal::RefusalDebug;
 use fabric::refusal::RefusalPartialEq;
@@ -52,6 +52,17 @@ impl Fault {
     {
         Fault {
             refusal: Refusal::Form,
+            layer: Layer::Sheet,
+            line,
+        }
+    }
+
+    // The line's count exceeds its limit.
+    pub(crate) fn too_many(line: u32) -> Fault
+        ensures { λ r. ⌜ told r ≡ too-many line ⌝ }
+    {
+        Fault {
+            refusal: Refusal::Count,
             layer: Layer::Sheet,
             line,
         }

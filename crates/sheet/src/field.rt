@@ -6,11 +6,14 @@ ghost use lib.ListN.{length, getD, take};
 ghost use Rattle.std.specs.Orderings.{Decides};
 ghost use Rattle.std.specs.Results.{Cases};
 ghost use Rattle.std.specs.Written.{decimal};
-ghost use Rattle.sheet.specs.Faults.{told, ill-formed};
+ghost use Rattle.fabric.specs.Ports.{letter};
+ghost use Rattle.fabric.specs.declared.parts.Port.{Port as Side};
+ghost use Rattle.sheet.specs.Faults.{told, ill-formed, too-many};
 ghost use Rattle.sheet.specs.Texts.{parted, Free};
 ghost use Rattle.sheet.specs.Fields.{words};
 use super::fault::Fault;
 use super::number::number;
+use fabric::parts::Port;
 
 // The index of the first `b` of `text`, or its length where there is none.
 pub(crate) fn find(text: &[u8], b: u8) -> usize
@@ -80,11 +83,32 @@ impl<'a> Fields<'a> {
         number(word, self.line)
     }
 
+    // The next field, a port's letter.
+    pub(crate) fn port(&mut self) -> Result<Port, Fault>
+        ensures words { λ r. ⌜ Cases r (λ p. words (now (self .entry)) ≡ letter p ∷ words (now (self .exit))) (λ f. (told f ≡ ill-formed (now (self .entry) .line)) × ((p : Side) (ws : List (List ℕ)) → words (now (self .entry)) ≡ letter p ∷ ws → ⊥)) ⌝ }
+        ensures line { λ _. ⌜ now (self .exit) .line ≡ now (self .entry) .line ⌝ }
+    {
+        match self.word()? {
+            w if is(w, b"N") => Ok(Port::N),
+            w if is(w, b"E") => Ok(Port::E),
+            w if is(w, b"S") => Ok(Port::S),
+            w if is(w, b"W") => Ok(Port::W),
+            _ => Err(self.fault()),
+        }
+    }
+
     // The line is not of its form.
     pub(crate) fn fault(&self) -> Fault
         ensures { λ r. ⌜ told r ≡ ill-formed (now (self .entry) .line) ⌝ }
     {
         Fault::ill_formed(self.line)
+    }
+
+    // The line's count exceeds its limit.
+    pub(crate) fn excess(&self) -> Fault
+        ensures { λ r. ⌜ told r ≡ too-many (now (self .entry) .line) ⌝ }
+    {
+        Fault::too_many(self.line)
     }
 
     // No field is left.

@@ -1,4 +1,4 @@
-// The run sheet's form: lines of fields, read by what they are the text of, and the faults that they have.
+// Texts in lines of fields: what they say where they are of their form, and their faults where they are not.
 pub mod fault;
 mod field;
 mod lines;

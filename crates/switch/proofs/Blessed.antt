@@ -13,10 +13,9 @@ use Rattle.fabric.specs.declared.parts.Port.the-variants.{N, E, S, W}
 use Rattle.fabric.specs.declared.parts.Flit.{Flit}
 use Rattle.fabric.specs.Ports.{place-of}
 use Rattle.switch.specs.Switches.{Handing, Golden, Carried, at}
-use Rattle.switch.specs.Sides.{same-or-not, place-small}
 use Rattle.switch.specs.Blesses.{standing, Lower, Before, Taken, looked-at, Leaves, later, bless-turn}
 use Rattle.switch.proofs.Ranked.{Best, best-passes, golden-or-plain}
-use Rattle.switch.proofs.Ordered.{some-is, none-some, before-irr, before-trans, rises, leaves-same, bless-lawful}
+use Rattle.switch.proofs.Ordered.{place-small, same-or-not, some-is, none-some, before-irr, before-trans, rises, leaves-same, bless-lawful}
 
 -- nothing ranks before the lowest golden flit
 pub bless-leads : (h : Handing) (s : Port) (f : Flit) → Best h s f → (w : Port) → at (h .wishes) s ≡ Some w → bless-turn h .to s ≡ w

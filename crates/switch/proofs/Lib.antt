@@ -1,6 +1,6 @@
 mod Blessed
+mod Blocks
 mod Chipped
 mod Ordered
 mod Ranked
 mod Serving
-mod Woven

@@ -19,11 +19,26 @@ use Rattle.switch.specs.declared.rank.Rank.{Rank}
 use Rattle.switch.specs.declared.rank.Rank.the-variants.{Golden, Ordinary}
 use Rattle.switch.specs.Ranks.{rank-of, gives-way}
 use Rattle.switch.specs.Switches.{Handing, at}
-use Rattle.switch.specs.Sides.{Sides, every, same, without, size, same-self, same-or-not, without-has, none-left, one-less}
+use Rattle.switch.specs.Sides.{Sides, every, same, without, size, same-self, same-true, without-has, none-left, one-less}
 use Rattle.switch.specs.Pairings.{look}
 use Rattle.switch.specs.Blesses.{standing-as, standing, Lower, Before, looked-at, Leaves, Bless-law, sooner, outranked, better, best, first-free, chosen, best-waits, chosen-free, served, bless-turn}
 
--- THE ORDER
+-- Sides.
+
+pub place-small : (q : Port) → place-of q < 4
+place-small N = omega arith
+place-small E = omega arith
+place-small S = omega arith
+place-small W = omega arith
+
+pub same-or-not : (p q : Port) → (p ≡ q) ⊎ ((same p q ≡ false) × (p ≡ q → ⊥))
+same-or-not p q = go (same p q) refl
+  where
+    go : (b : Bool) → same p q ≡ b → (p ≡ q) ⊎ ((same p q ≡ false) × (p ≡ q → ⊥))
+    go true e = inl (same-true p q e)
+    go false e = inr (e, λ r. false≢true (sym e ∙ subst (λ x. same p x ≡ true) r (same-self p)))
+
+-- The order of flits.
 
 lower-irr : (xs : List ℕ) → Lower xs xs → ⊥
 lower-irr [] l = l
@@ -106,7 +121,6 @@ module _ (h : Handing) where
   stands s r None (Some k) u v l g e o = absurd (true≢false o)
   stands s r (Some f) (Some k) u v l g e o = record { one = f; other = k; in-one = u; in-other = v; lower = lower-unless f k s r (rank-of (h .golden) f) (rank-of (h .golden) k) l o }
 
-  -- THE FIRST OF THOSE THAT WAIT
   module _ (w : Sides) where
     -- no flit that waits in x goes before that in m
     abbrev Leading : Port → Port → Type 0
@@ -157,7 +171,7 @@ module _ (h : Handing) where
           | W ↦ in-four .1
         ]
 
--- THE PORT THAT IS TAKEN
+-- The port that is chosen.
 
 pub leaves-same : (T U : Port → Type 0) (wish : Option Port) (p : Port) → ((q : Port) → T q → U q) → ((q : Port) → U q → T q) → Leaves T wish p → Leaves U wish p
 leaves-same T U wish p there back l = record {
@@ -207,7 +221,7 @@ module _ (f : Sides) where
     first = λ all q l. first-first (f E) (f W) (f N) refl refl refl q (subst (λ x. looked-at q < looked-at x) (chosen-else wish all) l);
   }
 
--- THE LAW, of those that wait and of what is free
+-- The law, of the slots that wait and the ports that are free.
 
 module _ (h : Handing) where
   abbrev goes : ℕ → Sides → Sides → Port → Port

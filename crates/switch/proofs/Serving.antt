@@ -14,9 +14,10 @@ use Rattle.fabric.specs.declared.parts.Port.the-variants.{N, E, S, W}
 use Rattle.fabric.specs.declared.parts.Flit.{Flit}
 use Rattle.fabric.specs.Ports.{place-of}
 use Rattle.switch.specs.Switches.{at}
-use Rattle.switch.specs.Sides.{Sides, every, held, same, without, size, same-true, none-left, one-less, place-small}
+use Rattle.switch.specs.Sides.{Sides, every, held, same, without, size, same-true, none-left, one-less}
 use Rattle.switch.specs.Pairings.{look, flipped}
 use Rattle.switch.specs.Blesses.{best, chosen, chosen-free, served}
+use Rattle.switch.proofs.Ordered.{place-small}
 
 -- four places, and one of them written
 four : {A : Type 0} (d : A) (xs : List A) → length xs ≡ 4 → xs ≡ getD xs 0 d ∷ getD xs 1 d ∷ getD xs 2 d ∷ getD xs 3 d ∷ []

@@ -19,7 +19,7 @@ use Rattle.switch.specs.Switches.{Handing, Turn, at}
 use Rattle.switch.specs.Sides.{Sides, every, without, bit, size, none-left, one-less}
 use Rattle.switch.specs.Pairings.{Pairs, Matches, paired}
 
--- THE LAW
+-- The law of the switch.
 
 -- what a flit in a slot is ranked by, the lowest first: golden flits by number, then ordinary ones by entry cycle, ticket and number,
 -- any still equal by slot order
@@ -55,7 +55,8 @@ looked-at W = 1
 looked-at N = 2
 looked-at S = 3
 
--- a flit leaves by its wish unless that is taken, and otherwise, or without a wish, by the first port of E, W, N, S that is not taken
+-- The flit leaves by its wish unless that is taken by a flit before it. Where the wish is taken, and where there is none,
+-- it leaves by the first port of E, W, N, S that no flit before it takes.
 pub record Leaves (taken : Port → Type 0) (wish : Option Port) (p : Port) : Type 0 where
   pub wished : (w : Port) → wish ≡ Some w → (taken w → ⊥) → p ≡ w
   pub free : ((w : Port) → wish ≡ Some w → taken w) → taken p → ⊥
@@ -64,7 +65,7 @@ pub record Leaves (taken : Port → Type 0) (wish : Option Port) (p : Port) : Ty
 abbrev pub Bless-law : Handing → (Port → Port) → Type 0
 Bless-law h to = (s : Port) (f : Flit) → at (h .places) s ≡ Some f → Leaves (Taken h to s) (at (h .wishes) s) (to s)
 
--- THE TURN, which keeps the law
+-- The turn, which keeps the law.
 
 -- of two ordinary flits, by entry cycle, ticket and number
 abbrev pub sooner : Flit → Flit → Bool

@@ -1,6 +1,6 @@
 -- The chipper switch: four blocks of two inputs and two outputs, each of which lets two lanes pass straight or crossed.
 use Prim.Native.Nat.{ℕ}
-use mathlib.Core.Path.{_≡_, refl}
+use mathlib.Core.Path.{_≡_, refl, _∙_, ap}
 use mathlib.Core.Bool.{Bool, true, false, cond, not, _||_}
 use mathlib.Core.List.{List, [], _∷_}
 use mathlib.Core.Logic.{_⊎_}
@@ -18,7 +18,6 @@ use Rattle.switch.specs.declared.chipper.Block.the-variants.{Entry, NorthSouth
 use Rattle.switch.specs.Ranks.{rank-at, Outranks, gives-way}
 use Rattle.switch.specs.Sides.{same}
 use Rattle.switch.specs.Switches.{Handing, Turn, at}
-use Rattle.switch.specs.Turns.{then}
 
 -- the ports to which a block's first output leads, and those of the second
 abbrev pub outputs : Block → List Port × List Port
@@ -36,19 +35,14 @@ by-first b p = among (outputs b .0) p
 abbrev pub by-second : Block → Port → Bool
 by-second b p = among (outputs b .1) p
 
--- THE LAW OF A BLOCK
+-- The law of a block, over ranks.
 
--- A flit alone wins, and of two the one that outranks the other. Of two equal ones the first wins,
--- but of two ordinary ones the second if the draw bit is 1. Of two empty lanes the first counts as the winner.
+-- When the first input wins: a flit alone does, and of two the one that outranks the other. Of two golden flits of one number the first does,
+-- and of two ordinary ones if the draw bit is 0. Of two empty lanes the first counts as the winner. Otherwise the second input wins.
 abbrev pub First-wins : Bool → Option Rank → Option Rank → Type 0
 First-wins draw a None = Unit {0}
 First-wins draw None (Some b) = ⊥
 First-wins draw (Some a) (Some b) = Outranks a b ⊎ ((a ≡ b) × (a ≡ Ordinary → draw ≡ false))
-
-abbrev pub Second-wins : Bool → Option Rank → Option Rank → Type 0
-Second-wins draw a None = ⊥
-Second-wins draw None (Some b) = Unit {0}
-Second-wins draw (Some a) (Some b) = Outranks b a ⊎ ((a ≡ Ordinary) × (b ≡ Ordinary) × (draw ≡ true))
 
 -- the winner takes the output that leads to its wish, or the first if none does, and the loser the other
 pub record Let-out (b : Block) (winner loser : Lane) (out : Lane × Lane) : Type 0 where
@@ -58,9 +52,9 @@ pub record Let-out (b : Block) (winner loser : Lane) (out : Lane × Lane) : Type
 
 pub record Block-law (b : Block) (draw : Bool) (first second : Lane) (out : Lane × Lane) : Type 0 where
   pub first-wins : First-wins draw (first .rank) (second .rank) → Let-out b first second out
-  pub second-wins : Second-wins draw (first .rank) (second .rank) → Let-out b second first out
+  pub second-wins : (First-wins draw (first .rank) (second .rank) → ⊥) → Let-out b second first out
 
--- THE LAW OF THE SWITCH
+-- The law of the switch.
 
 abbrev pub lane-of : ℕ → Option Flit → Option Port → Lane
 lane-of golden place wish = record { flit = place; rank = rank-at golden place; wish = wish }
@@ -86,7 +80,7 @@ pub record Chipper-law (h : Handing) (out : List (Option Flit)) : Type 0 where
   pub block-4 : Block-law EastWest (draw h 3) (out-1 .1) (out-2 .1) out-4
   pub ports : out ≡ out-3 .0 .flit ∷ out-4 .0 .flit ∷ out-3 .1 .flit ∷ out-4 .1 .flit ∷ []
 
--- THE TURN, which keeps the law
+-- The turn, which keeps the law.
 
 -- a winner takes the second output if that leads to its wish, else the first
 abbrev pub wants-second : Block → Option Port → Bool
@@ -141,6 +135,15 @@ entry-turn a b = record { to = enters a b; from = enters a b; to-from = enters-t
 
 abbrev pub exit-turn : Bool → Bool → Turn
 exit-turn a b = record { to = leaves a b; from = leaves a b; to-from = leaves-twice a b; from-to = leaves-twice a b }
+
+-- one turn, then another
+abbrev pub then : Turn → Turn → Turn
+then t u = record {
+  to = λ p. u .to (t .to p);
+  from = λ p. t .from (u .from p);
+  to-from = λ p. ap (u .to) (t .to-from (u .from p)) ∙ u .to-from p;
+  from-to = λ p. ap (t .from) (u .from-to (t .to p)) ∙ t .from-to p;
+}
 
 module _ (h : Handing) where
   -- whether block i crosses the slots that came to its two inputs

@@ -4,4 +4,3 @@ pub mod Pairings
 pub mod Ranks
 pub mod Sides
 pub mod Switches
-pub mod Turns

@@ -1,8 +1,7 @@
 -- Sets of slots or ports.
-use Prim.Native.Nat.{ℕ, zero, suc, _+_, _<_}
-use mathlib.Core.Path.{_≡_, refl, sym, _∙_, ap, subst}
+use Prim.Native.Nat.{ℕ, zero, suc, _+_}
+use mathlib.Core.Path.{_≡_, refl, sym, _∙_, ap}
 use mathlib.Core.List.{List}
-use mathlib.Core.Logic.{_⊎_, inl, inr}
 use mathlib.Core.Bool.{Bool, true, false, cond, false≢true}
 use native.Mathlib.Omega.{arith}
 use borrow.Author.Tests.{eqb-true}
@@ -27,12 +26,6 @@ same p q = eqb (place-of p) (place-of q)
 
 abbrev pub without : Sides → Port → Sides
 without xs q p = cond (same p q) false (xs p)
-
-pub place-small : (q : Port) → place-of q < 4
-place-small N = omega arith
-place-small E = omega arith
-place-small S = omega arith
-place-small W = omega arith
 
 abbrev pub bit : Bool → ℕ
 bit true = 1
@@ -61,13 +54,6 @@ same-self N = refl
 same-self E = refl
 same-self S = refl
 same-self W = refl
-
-pub same-or-not : (p q : Port) → (p ≡ q) ⊎ ((same p q ≡ false) × (p ≡ q → ⊥))
-same-or-not p q = go (same p q) refl
-  where
-    go : (b : Bool) → same p q ≡ b → (p ≡ q) ⊎ ((same p q ≡ false) × (p ≡ q → ⊥))
-    go true e = inl (same-true p q e)
-    go false e = inr (e, λ r. false≢true (sym e ∙ subst (λ x. same p x ≡ true) r (same-self p)))
 
 pub without-has : (xs : Sides) (q p : Port) → without xs q p ≡ true → (same p q ≡ false) × (xs p ≡ true)
 without-has xs q p = go (same p q)

@@ -1,4 +1,4 @@
-// The bless switch: in the order of their rank, flits take their wishes, or else the first free port.
+// The bless switch: in the order of their rank, flits take their wishes, or else the first free port (in the field: oldest-first port allocation).
 ghost use mathlib.Core.Path.{_≡_};
 ghost use Rattle.switch.specs.Switches.{handed, turned};
 ghost use Rattle.switch.specs.Sides.{held};
@@ -9,7 +9,7 @@ use super::switch::Switch;
 use fabric::parts::Flit;
 use fabric::parts::Port;
 
-#[derive(Drop)]
+#[derive(Clone, Copy, Debug)]
 pub struct Bless;
 
 // Whether one flit goes before another, if both are ordinary.

@@ -1,14 +1,14 @@
-// The chipper switch: four blocks, each of which lets two lanes pass straight or crossed.
+// The chipper switch: four blocks, each of which lets two lanes pass straight or crossed (in the field: a permutation network of arbiters).
 ghost use mathlib.Core.Path.{_≡_};
 ghost use Rattle.switch.specs.Switches.{handed, turned};
-ghost use Rattle.switch.specs.Chippers.{lane-of, by-second, wants-second, crossing, passed, chipper-turn, Chipper-law};
+ghost use Rattle.switch.specs.Chippers.{lane-of, by-second, wants-second, crossing, passed, chipper-turn, Block-law, Chipper-law};
 use super::rank::Rank;
 use super::rank::gives_way;
 use super::switch::Switch;
 use fabric::parts::Flit;
 use fabric::parts::Port;
 
-#[derive(Drop)]
+#[derive(Clone, Copy, Debug)]
 pub struct Chipper;
 
 // What a wire between blocks carries: a place, with the rank of its flit and the wish.
@@ -46,12 +46,12 @@ impl Block {
     fn second_leads_to(self, port: Port) -> bool
         ensures { λ r. ⌜ r ≡ by-second self port ⌝ }
     {
-        match (self, port) {
-            (Block::Entry, Port::E | Port::W) => true,
-            (Block::NorthSouth, Port::S) => true,
-            (Block::EastWest, Port::W) => true,
-            _ => false,
-        }
+        matches!(
+            (self, port),
+            (Block::Entry, Port::E | Port::W)
+                | (Block::NorthSouth, Port::S)
+                | (Block::EastWest, Port::W)
+        )
     }
 
     // Whether a winner takes the second output.
@@ -75,8 +75,10 @@ impl Block {
         }
     }
 
+    // The winner leaves by the output that leads to its wish, or by the first, and the loser by the other.
     fn pass(self, first: Lane, second: Lane, draw: bool) -> (Lane, Lane)
         ensures { λ r. ⌜ r ≡ passed self draw first second ⌝ }
+        ensures law { λ r. ⌜ Block-law self draw first second r ⌝ }
     {
         if self.crosses(first, second, draw) {
             (second, first)

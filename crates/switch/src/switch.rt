@@ -1,4 +1,4 @@
-// What a switch is (in the field: the crossbar and its arbiter).
+// What a switch is (in the field: a router's crossbar with its port allocator).
 ghost use mathlib.Core.Path.{_≡_};
 ghost use Rattle.switch.specs.Switches.{Handing, Turn, Lawful-switch, handed, turned};
 use fabric::parts::Flit;
@@ -10,8 +10,9 @@ pub trait Switch {
 
     law lawful: { (x : Self) → Lawful-switch (turn x) };
 
-    // The places handed in stand in slot order, each with its wish; of those that come out, each leaves by the port at its place.
-    // A flit of the ticket `golden` is golden, every other is ordinary.
+    // Places and wishes are handed in by slot, and the places that come out stand by port.
+    // A flit of the ticket `golden` is golden (in the field: of the Golden Packet), every other is ordinary.
+    // The draw bits settle contests that ranks leave open.
     fn route(
         &self,
         places: [Option<Flit>; 4],

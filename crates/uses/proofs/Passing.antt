@@ -1,6 +1,6 @@
 -- The outcomes of the calls by which a packet of two words passes.
 use Prim.Native.Nat.{ℕ}
-use mathlib.Core.Path.{_≡_, sym, ap, subst, _∙_}
+use mathlib.Core.Path.{_≡_, refl, ap, ap₂, subst, _∙_}
 use mathlib.Core.List.{List, [], _∷_}
 use native.Mathlib.Omega.{arith}
 use Rattle.fabric.specs.declared.mesh.Mesh.{Mesh}
@@ -14,12 +14,12 @@ use Rattle.line.specs.Queues.{Queue, empty}
 use Rattle.bounds.specs.declared.settings.Settings.{Settings}
 use Rattle.network.specs.declared.event.Event.{Event}
 use Rattle.network.specs.declared.event.Kind.the-variants.{In}
-use Rattle.network.specs.Cycle.{Fabric}
-use Rattle.network.specs.Runs.{Call, Outcome}
+use Rattle.network.specs.Cycle.{Fabric, State}
+use Rattle.network.specs.Runs.{Call, Outcome, Serves}
 use Rattle.network.specs.Runs.Call.{cycle}
 use Rattle.network.specs.Runs.Outcome.{offering, cycling, collecting, looking}
 use Rattle.network.specs.Computed.{outcome, after}
-use Rattle.network.proofs.Solving.{served, clear-after}
+use Rattle.network.proofs.Solving.{served-one}
 use Rattle.calls.specs.declared.calls.Network.{Network}
 use Rattle.calls.specs.declared.tables.Tables.{Tables}
 use Rattle.calls.specs.Follow.{Promised, Served, Answers, Exactly, Begins}
@@ -43,15 +43,16 @@ abbrev outcomes : List Call → List Outcome
 outcomes [] = []
 outcomes (k ∷ ks) = outcome net small (after net small ks) k ∷ outcomes ks
 
-computed : (ks : List Call) → Answers net small ks (outcomes ks) (after net small ks)
-computed [] = set-up
-computed (k ∷ ks) = a-call (computed ks) (served net small law (after net small ks) (clear-after net small law ks) k)
+as-computed : {ks : List Call} {os : List Outcome} {s : State} → Answers net small ks os s → (os ≡ outcomes ks) × (s ≡ after net small ks)
+as-computed set-up = (refl, refl)
+as-computed (a-call {ks} {os} {s} {r} {k} {o} a v) =
+    let e = as-computed a in
+    let x = served-one net small law (after net small ks) (subst (λ (y : State). Serves net small y k o r) (e .1) v) in
+    (ap₂ (λ (y : Outcome) (ys : List Outcome). y ∷ ys) (x .0) (e .0), x .1)
 
 -- the outcomes of calls each of which kept its promise
 the-outcomes : (i j : Tables) → Begins net small i → (ks : List Call) (os : List Outcome) → Served net i ks os j → os ≡ outcomes ks
-the-outcomes i j b ks os v =
-    let x : Exactly net small ks os = subst (λ (P : Settings). Exactly net P ks os) (b .settings) (b .whole ks os j v) in
-    sym (x .only (outcomes ks) (after net small ks) (computed ks) .0)
+the-outcomes i j b ks os v = as-computed (subst (λ (P : Settings). Exactly net P ks os) (b .settings) (b .whole ks os j v) .answers) .0
 
 abbrev no-event : Event
 no-event = record { cycle = 0; kind = In; ticket = 0; number = 0; node = 0; entered = 0 }

@@ -5,6 +5,7 @@ use mathlib.Core.Bool.{Bool, true}
 use mathlib.Core.List.{List, [], _∷_}
 use Rattle.std.specs.declared.option.Option.{Option}
 use Rattle.std.specs.declared.option.Option.the-variants.{Some, None}
+use Rattle.fabric.specs.declared.parts.Cable.{Cable}
 use Rattle.fabric.specs.declared.parts.Port.{Port}
 use Rattle.fabric.specs.declared.parts.Port.the-variants.{N, E, S, W}
 use Rattle.fabric.specs.declared.parts.Slot.{Slot}
@@ -13,6 +14,7 @@ use Rattle.fabric.specs.Layouts.{Plan}
 use Rattle.fabric.specs.Meshes.{mesh-plan}
 use Rattle.fabric.specs.Verdicts.{Verdict}
 use Rattle.fabric.specs.Verdicts.Verdict.{granted, refused}
+use Rattle.cabled.specs.Cables.{Cabling}
 use Rattle.switch.specs.Switches.{Handing, handed}
 use Rattle.switch.specs.Chippers.{chipper-turn}
 use Rattle.switch.specs.Blesses.{bless-turn}
@@ -28,15 +30,15 @@ pub data Answer : Type 0 where
   ports : List Port → Answer
   verdict : Verdict (Unit {0}) → Answer
 
-pub record Row : Type 0 where
-  pub defined : Answer
-  pub worked : Answer
+pub data Row : Type 0 where
+  is : Answer → Answer → Row
+  -- cabling so many nodes is refused by this number, naming these
+  refuses : ℕ → List Cable → ℕ → List ℕ → Row
 
+-- a refusal is right where it is an outcome of the call, and the only one
 abbrev pub Right : Row → Type 0
-Right r = r .defined ≡ r .worked
-
-abbrev is : Answer → Answer → Row
-is a b = record { defined = a; worked = b }
+Right (is a b) = a ≡ b
+Right (refuses k cs n vs) = (p : Plan) → Cabling (λ q. q) k cs p p (refused n vs) × ((q : Plan) (v : Verdict Unit) → Cabling (λ r. r) k cs p q v → v ≡ refused n vs)
 
 -- three columns and two rows
 abbrev six : Plan
@@ -62,7 +64,9 @@ two-words epoch = record { tickets = 1; words = 2; epoch = epoch; seed = 1 }
 
 abbrev pub table : List Row
 table =
-    is (number (six .distance 0 5)) (number 3)
+    -- 0 E 1 W leaves node 2 without a way
+    refuses 3 (record { one = record { node = 0; port = E }; other = record { node = 1; port = W } } ∷ []) 14 (2 ∷ [])
+    ∷ is (number (six .distance 0 5)) (number 3)
     ∷ is (port (six .wish 0 5)) (port (Some E))
     ∷ is (number (six .distance 2 5)) (number 1)
     ∷ is (port (six .wish 2 5)) (port (Some S))

@@ -3,11 +3,10 @@ ghost use Prim.Native.Nat.{_*_, _<_, _≤_};
 ghost use mathlib.Core.Path.{_≡_};
 ghost use lib.ListN.{length};
 ghost use Rattle.std.specs.declared.option.Option.the-variants.{None};
-ghost use Rattle.calls.specs.Fits.{Fits};
-ghost use Rattle.calls.specs.Records.{Starts, Accepts, Frees, Takes-in, Lets-in, Advances};
-ghost use Rattle.network.specs.Cycle.{in-slot-order};
-ghost use Rattle.clock.specs.Draws.{shifted, draw-bits};
 ghost use Rattle.clock.specs.Epochs.{golden-ticket};
+ghost use Rattle.network.specs.Cycle.{in-slot-order};
+ghost use Rattle.calls.specs.Fits.{Fits};
+ghost use Rattle.calls.specs.Records.{Starts, Accepts, Frees, Takes-in, Lets-in, Draws, Advances};
 ghost use Rattle.calls.specs.Follow.{slot-of};
 use super::super::ticket::BLANK;
 use super::super::ticket::Ticket;
@@ -23,6 +22,7 @@ use clock::epoch::golden;
 use fabric::parts::Flit;
 
 impl Tables {
+    // The tables of a network just set up.
     pub(crate) fn fresh(settings: Settings) -> Tables
         requires { ⌜ Fits settings ⌝ }
         ensures { λ r. ⌜ Starts r settings ⌝ }
@@ -37,7 +37,7 @@ impl Tables {
         }
     }
 
-    // A packet under a free ticket of a node, which then waits there.
+    // Takes over a packet under a free ticket of a node, where it then waits.
     pub(crate) fn accept(&mut self, node: usize, ticket: usize, destination: usize, words: &[u32])
         requires { ⌜ node < 64 ⌝ ∗ ⌜ ticket < 512 ⌝ ∗ ⌜ destination < 64 ⌝ ∗ ⌜ length (now words) ≤ 4 ⌝ }
         ensures { λ _. ⌜ Accepts (now (self .entry)) (now (self .exit)) node ticket destination (now (words .entry)) ⌝ }
@@ -46,7 +46,7 @@ impl Tables {
         self.waits[node].put(ticket as u16);
     }
 
-    // A ticket whose packet is collected.
+    // Frees a ticket whose packet is collected.
     pub(crate) fn free(&mut self, ticket: usize)
         requires { ⌜ ticket < 512 ⌝ }
         ensures { λ _. ⌜ Frees (now (self .entry)) (now (self .exit)) ticket ⌝ }
@@ -54,7 +54,7 @@ impl Tables {
         self.tickets[ticket].busy = false;
     }
 
-    // The word of a flit that is taken off.
+    // Enters the word of an ejected flit in its ticket's record.
     pub(crate) fn take_in(&mut self, flit: Flit)
         ensures { λ _. ⌜ Takes-in (now (self .entry)) (now (self .exit)) flit ⌝ }
     {
@@ -70,9 +70,8 @@ impl Tables {
         ensures { λ r. ⌜ Lets-in (now (self .entry)) (now (self .exit)) node r ⌝ }
     {
         let line = self.waits[node];
-        let ticket = match line.first() {
-            Some(ticket) => ticket,
-            None => return None,
+        let Some(ticket) = line.first() else {
+            return None;
         };
         let t = usize::from(ticket);
         if t >= TICKETS {
@@ -87,11 +86,9 @@ impl Tables {
         flit
     }
 
-    // The four draw bits of a node.
+    // Shifts the draw register, and answers the four draw bits of a node.
     pub(crate) fn draw(&mut self) -> [bool; 4]
-        ensures register { λ _. ⌜ now (self .exit) .register ≡ shifted (now (self .entry) .register) ⌝ }
-        ensures bits { λ r. ⌜ r ≡ draw-bits (now (self .exit) .register) ⌝ }
-        ensures rest { λ _. ⌜ now (self .exit) .settings ≡ now (self .entry) .settings ⌝ ∗ ⌜ now (self .exit) .cycles ≡ now (self .entry) .cycles ⌝ ∗ ⌜ now (self .exit) .slots ≡ now (self .entry) .slots ⌝ ∗ ⌜ now (self .exit) .tickets ≡ now (self .entry) .tickets ⌝ ∗ ⌜ now (self .exit) .waits ≡ now (self .entry) .waits ⌝ }
+        ensures { λ r. ⌜ Draws (now (self .entry)) (now (self .exit)) r ⌝ }
     {
         let r = shift(self.register);
         self.register = r;
@@ -111,6 +108,7 @@ impl Tables {
         ]
     }
 
+    // The golden ticket of this cycle.
     pub(crate) fn golden(&self, nodes: usize) -> usize
         requires { ⌜ 0 < nodes ⌝ ∗ ⌜ nodes ≤ 64 ⌝ }
         ensures { λ r. ⌜ r ≡ golden-ticket (nodes * now (self .entry) .settings .tickets) (now (self .entry) .settings .epoch) (now (self .entry) .cycles) ⌝ }

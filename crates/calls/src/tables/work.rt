@@ -1,4 +1,4 @@
-// What a node takes off and lets in.
+// What a node ejects and injects.
 ghost use Prim.Native.Nat.{_<_};
 ghost use mathlib.Core.Path.{_≡_};
 ghost use denote.Ref.{name};
@@ -15,7 +15,7 @@ use network::event::Event;
 use network::event::Kind;
 
 impl Tables {
-    // Takes off a flit that is due here, if there is one. Answers the other places, and how many were taken off.
+    // Ejects the flit whose turn it is, if one is due here. Answers the other places, and how many were ejected.
     pub(crate) fn take_off(
         &mut self,
         node: usize,
@@ -37,7 +37,7 @@ impl Tables {
         }
     }
 
-    // Lets in the next flit that waits here, if a place is empty.
+    // Injects the next flit that waits here, if a place is empty.
     pub(crate) fn enter(
         &mut self,
         node: usize,

@@ -1,4 +1,4 @@
-// Last in at the end, first out at the front.
+// A ticket joins at the end and leaves at the front.
 ghost use Prim.Native.Nat.{_+_, _-_, _<_, _≤_};
 ghost use mathlib.Core.Path.{_≡_};
 ghost use mathlib.Core.List.{[], _∷_, _++_};

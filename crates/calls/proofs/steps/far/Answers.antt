@@ -1,11 +1,11 @@
-use mathlib.Core.Path.{_≡_, ap, _∙_}
 use Prim.Native.Nat.{_+_, _*_}
+use mathlib.Core.Path.{_≡_, ap, _∙_}
 use native.Mathlib.Omega.{arith}
 use Rattle.fabric.specs.declared.parts.Slot.{Slot}
 use Rattle.fabric.specs.declared.parts.Port.{Port}
 use Rattle.fabric.specs.Ports.{place-of}
-use Rattle.calls.proofs.Setting.{place-below}
 use Rattle.fabric.proofs.Following.{far-exists}
+use Rattle.calls.proofs.Setting.{place-below}
 use Rattle.calls.proofs.steps.far.Needs as need
 
 pub mul-result : need.mul-result

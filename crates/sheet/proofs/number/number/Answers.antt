@@ -1,13 +1,13 @@
-use Prim.Native.Nat.{ℕ, _<_, _≤_, _^_}
+use Prim.Native.Nat.{ℕ, _≤_}
 use mathlib.Core.Path.{_≡_, _∙_, sym, ap, subst}
 use mathlib.Core.List.{List}
 use mathlib.Core.Logic.{inl, inr}
 use native.Mathlib.Omega.{arith}
-use lib.ListN.{length, getD, take}
+use lib.ListN.{length, take}
 use Rattle.std.specs.Reads.{value, Digits}
 use Rattle.std.specs.Written.{decimal}
 use Rattle.std.proofs.shelf.Lists.{take-all}
-use Rattle.sheet.proofs.Numbers.{Writes, unwritten, written, value-step, digits-step, power-step, no-digit}
+use Rattle.sheet.proofs.Numbers.{unwritten, written, value-step, digits-step, power-step, no-digit}
 use Rattle.sheet.proofs.number.number.Needs as need
 use Rattle.sheet.proofs.number.number.Needs.{then-word-eq0·by·then-word-eq0, then-word-eq0·by·else-word-eq0·then-word-gt-MOST-DIGITS, then-b-lt48·by·then-b-lt48, then-b-lt48·by·else-b-lt48·then-b-gt57}
 

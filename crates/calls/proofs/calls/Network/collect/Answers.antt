@@ -1,12 +1,10 @@
 use Prim.Native.Nat.{ℕ, _<_, _≤_}
 use mathlib.Core.Path.{refl, sym, subst, _∙_}
 use mathlib.Core.Logic.{_⊎_, inl, inr}
-use mathlib.Core.Bool.{false}
 use native.Mathlib.Omega.{arith}
-use Rattle.std.proofs.shelf.Tests.{both-ways}
 use lib.ListN.{length}
 use Rattle.network.specs.Cycle.{Fabric}
-use Rattle.calls.proofs.Promising.{promised, refusing}
+use Rattle.calls.proofs.Promising.{not-refused, promised, refusing}
 use Rattle.calls.proofs.Offers.{own-ticket}
 use Rattle.calls.proofs.Collects.{no-node, not-complete, no-memory, grants}
 use Rattle.calls.proofs.calls.Network.collect.Needs.{then-receiver-nodes·by·then-receiver-nodes, then-receiver-nodes·by·else-receiver-nodes·then-sender-nodes, then-receiver-nodes·by·else-receiver-nodes·else-sender-nodes·then-own-self}
@@ -67,5 +65,5 @@ returns g c =
     let b = promised F law (g .S·Switch·met .lawful (s .switch)) (s .inner) (c .free .last .self) _ _
     (grants F (s .inner) (c .args .receiver) (c .args .sender) (c .args .own) (c .args .memory .now) (omega arith) (omega arith) (c .if-own-self .left)
     (c .complete .result) (c .complete .ensures) (c .if-not-complete .left) (sym (c .from .ensures) ∙ c .if-from-receiver .left) law (subst (λ (z : ℕ). z ≤ length (c .args .memory .now)) (c .from-size .ensures) (c .if-memory-size .left)) (c .free .last .self) (c .free .ensures)
-    (omega arith) (c .from-size .result) (c .from-size .ensures) (c .write .last .memory) (c .write .ensures)) (λ e. absurd (both-ways false refl e)) in
+    (omega arith) (c .from-size .result) (c .from-size .ensures) (c .write .last .memory) (c .write .ensures)) not-refused in
     record { promised = b; parts = (refl, refl) }

@@ -1,13 +1,11 @@
 use Prim.Native.Nat.{ℕ, _*_}
 use mathlib.Core.Path.{refl, ap, subst₂, _∙_}
-use mathlib.Core.Bool.{false}
 use native.Mathlib.Omega.{arith}
-use Rattle.std.proofs.shelf.Tests.{both-ways}
+use Rattle.line.specs.Lines.{queue-of}
 use Rattle.clock.specs.Epochs.{golden-ticket}
 use Rattle.network.specs.Cycle.{Fabric}
-use Rattle.line.specs.Lines.{queue-of}
 use Rattle.calls.specs.Midway.{Node-works}
-use Rattle.calls.proofs.Promising.{promised, refusing}
+use Rattle.calls.proofs.Promising.{not-refused, promised, refusing}
 use Rattle.calls.proofs.Rounds.{round-none, round-more, no-cycle, no-room, cycles-on}
 use Rattle.calls.proofs.calls.Network.cycle.Needs as need
 
@@ -58,11 +56,9 @@ returns g c =
     let law = g .L·Layout·met .lawful (s .layout) in
     let F : Fabric = record { plan = g .L·Layout .plan (s .layout); turn = g .S·Switch .turn (s .switch) } in
     let i = c .loop-node .inv in
-    let a = c .advance .ensures in
     let q = queue-of (c .args .line .now) in
     let b = promised F law (g .S·Switch·met .lawful (s .switch)) (s .inner) (c .advance .last .self) _ _
     (cycles-on F (s .inner) law q (c .if-self-ge-MOST-CYCLES .left) (omega arith) (c .args .line .now .sound .0) (c .loop-node .self .inner) (c .advance .last .self) (c .golden-golden .result)
     (c .loop-node .arriving) (queue-of (c .loop-node .line)) (c .loop-node .off) (c .loop-node .node)
-    (c .golden-golden .ensures ∙ ap (λ (x : ℕ). golden-ticket (x * s .inner .settings .tickets) (s .inner .settings .epoch) (s .inner .cycles)) (c .nodes-nodes .ensures)) (omega arith) (i .0)
-    (a .settings) (a .cycles) (a .register) (a .slots) (a .tickets) (a .waits)) (λ e. absurd (both-ways false refl e)) in
+    (c .golden-golden .ensures ∙ ap (λ (x : ℕ). golden-ticket (x * s .inner .settings .tickets) (s .inner .settings .epoch) (s .inner .cycles)) (c .nodes-nodes .ensures)) (omega arith) (i .0) (c .advance .ensures)) not-refused in
     record { promised = b; parts = (i .1, i .2); lender = i .3 }

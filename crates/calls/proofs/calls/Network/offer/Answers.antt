@@ -1,12 +1,10 @@
 use Prim.Native.Nat.{_<_, _≤_}
 use mathlib.Core.Path.{_≡_, refl}
 use mathlib.Core.Logic.{_⊎_, inl, inr, ⊎-elim}
-use mathlib.Core.Bool.{false}
 use native.Mathlib.Omega.{arith}
-use Rattle.std.proofs.shelf.Tests.{both-ways}
 use lib.ListN.{length}
 use Rattle.network.specs.Cycle.{Fabric}
-use Rattle.calls.proofs.Promising.{promised, refusing}
+use Rattle.calls.proofs.Promising.{not-refused, promised, refusing}
 use Rattle.calls.proofs.Offers.{no-node, no-destination, no-words, not-free, own-ticket, grants}
 use Rattle.calls.proofs.calls.Network.offer.Needs.{then-node-nodes·by·then-node-nodes, then-node-nodes·by·else-node-nodes·then-own-self}
 use Rattle.calls.proofs.calls.Network.offer.Needs.{then-words-eq0·by·then-words-eq0, then-words-eq0·by·else-words-eq0·then-words-self}
@@ -76,5 +74,5 @@ returns g c =
     let F : Fabric = record { plan = g .L·Layout .plan (s .layout); turn = g .S·Switch .turn (s .switch) } in
     let b = promised F law (g .S·Switch·met .lawful (s .switch)) (s .inner) (c .accept .last .self) _ _
     (grants F (s .inner) (c .args .node) (c .args .own) (c .args .destination) (c .args .words .now) (omega arith) (omega arith) (omega arith) (c .if-destination-node .left)
-    (c .if-words-eq0 .left) (c .if-words-self .left) law (c .accept .last .self) (c .accept .ensures) (omega arith) (omega arith) (c .if-self-ticket .left)) (λ e. absurd (both-ways false refl e)) in
+    (c .if-words-eq0 .left) (c .if-words-self .left) law (c .accept .last .self) (c .accept .ensures) (omega arith) (omega arith) (c .if-self-ticket .left)) not-refused in
     record { promised = b; parts = (refl, refl) }

@@ -1,6 +1,5 @@
 use mathlib.Core.Path.{refl, sym}
-use mathlib.Core.Bool.{false}
-use Rattle.std.proofs.shelf.Tests.{both-ways}
+use Rattle.calls.proofs.Promising.{not-refused}
 use Rattle.calls.proofs.Setting.{begins, fits}
 use Rattle.calls.proofs.calls.Network.set_up.Needs as need
 
@@ -14,6 +13,6 @@ returns g c =
     record {
       exact = e;
       begins = λ _. begins _ (g .L·Layout·met .lawful (s .layout)) (g .S·Switch·met .lawful (s .switch)) (c .fresh-self .result) _ (c .fresh-self .ensures) (sym e);
-      unchanged = λ v. absurd (both-ways false refl v);
+      unchanged = not-refused;
       parts = (refl, refl);
     }

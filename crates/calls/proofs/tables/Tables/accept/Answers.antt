@@ -4,10 +4,7 @@ use Rattle.calls.proofs.tables.Tables.accept.Needs as need
 pub returns : need.returns
 returns c =
     record {
-      settings = refl;
-      cycles = refl;
-      register = refl;
-      slots = refl;
+      keeps = record { settings = refl; cycles = refl; register = refl; slots = refl };
       its = c .new .result;
       packed = c .new .ensures;
       tickets = refl;

@@ -9,7 +9,7 @@ returns-in-rest c =
     record {
       enters = record {
         keeps = record { settings = refl; cycles = refl; register = refl; slots = refl };
-        lets = λ F s l law inv h own b pl room. let-full F i s l (c .args .node) law inv h own b (c .args .places) pl (queue-of (c .args .line .now)) (sym (c .in-rest .ensures tt));
+        lets = λ F s l law led h own b pl room. let-full F i s l (c .args .node) law led h own b (c .args .places) pl (queue-of (c .args .line .now)) (sym (c .in-rest .ensures tt));
       };
       lender = refl;
     }
@@ -20,8 +20,8 @@ returns-in-rest-let-in c =
     record {
       enters = record {
         keeps = c .let-in .ensures .keeps;
-        lets = λ F s l law inv h own b pl room.
-            let-none F i s l (c .args .node) law inv h own b (c .args .places) pl (c .in-Some .port) (sym (c .in-Some .ensures tt)) (c .let-in .last .self) (c .let-in .result) (c .let-in .ensures) (queue-of (c .args .line .now)) (c .in-rest-let-in .is);
+        lets = λ F s l law led h own b pl room.
+            let-none F i s l (c .args .node) law led h own b (c .args .places) pl (c .in-Some .port) (sym (c .in-Some .ensures tt)) (c .let-in .last .self) (c .let-in .result) (c .let-in .ensures) (queue-of (c .args .line .now)) (c .in-rest-let-in .is);
       };
       lender = refl;
     }
@@ -32,8 +32,8 @@ returns c =
     record {
       enters = record {
         keeps = c .let-in .ensures .keeps;
-        lets = λ F s l law inv h own b pl room.
-            let-some F i s l (c .args .node) law inv h own b (c .args .places) pl (c .in-Some .port) (sym (c .in-Some .ensures tt)) (c .let-in .last .self) (c .let-in .result) (c .let-in .ensures)
+        lets = λ F s l law led h own b pl room.
+            let-some F i s l (c .args .node) law led h own b (c .args .places) pl (c .in-Some .port) (sym (c .in-Some .ensures tt)) (c .let-in .last .self) (c .let-in .result) (c .let-in .ensures)
             (c .in-Some-let-in .flit) (c .in-Some-let-in .is) (queue-of (c .args .line .now)) (queue-of (c .tell .last .line)) (c .with .result) (c .let-in .last .self .cycles) (c .with .ensures) (c .let-in .ensures .keeps .cycles) (c .tell .ensures .put room);
       };
       lender = c .tell .ensures .lender;

@@ -5,13 +5,13 @@ use Rattle.calls.specs.Records.{no-waits, line-of}
 use Rattle.calls.proofs.Recording.{head-none, head-some, head-empty, let-go}
 use Rattle.calls.proofs.tables.Tables.let_in.Needs as need
 
-pub returns-in-None : need.returns-in-None
-returns-in-None c =
+pub returns-in-rest : need.returns-in-rest
+returns-in-rest c =
     let xs = line-of (getD (c .args .self .now .waits) (c .args .node) no-waits) in
     record {
       keeps = record { settings = refl; cycles = refl; register = refl; slots = refl };
       none = λ e. (refl, refl, refl);
-      some = λ t ts e h. absurd (head-none xs (c .in-None .ensures tt) t ts e);
+      some = λ t ts e h. absurd (head-none xs (c .in-rest .ensures tt) t ts e);
     }
 
 pub returns-then-t-ge-TICKETS : need.returns-then-t-ge-TICKETS

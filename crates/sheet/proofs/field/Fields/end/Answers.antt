@@ -1,4 +1,4 @@
-use mathlib.Core.Path.{_≡_, sym, _∙_}
+use mathlib.Core.Path.{sym, _∙_}
 use Rattle.std.proofs.shelf.Tests.{cond-true}
 use Rattle.sheet.proofs.Parting.{parted-not-none}
 use Rattle.sheet.proofs.field.Fields.end.Needs as need

@@ -1,6 +1,6 @@
 use Prim.Native.Nat.{_<_}
 use lib.ListN.{length}
-use mathlib.Core.Path.{_≡_, refl, subst}
+use mathlib.Core.Path.{refl, subst}
 use native.Mathlib.Omega.{arith}
 use Rattle.std.proofs.shelf.Lists.{take-all}
 use Rattle.sheet.specs.Texts.{Free}

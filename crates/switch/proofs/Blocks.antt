@@ -1,8 +1,8 @@
 -- A block keeps its law, and what four blocks do to four lanes is the chipper's turn.
-use Prim.Native.Nat.{ℕ}
+use Prim.Native.Nat.{ℕ, _<_}
 use mathlib.Core.Path.{_≡_, refl, sym, _∙_, ap}
 use mathlib.Core.Bool.{Bool, true, false, cond, false≢true}
-use mathlib.Core.List.{List, [], _∷_}
+use mathlib.Core.List.{[], _∷_}
 use mathlib.Core.Logic.{inl, inr}
 use native.Mathlib.Omega.{arith}
 use borrow.Author.Tests.{lt-ltb, le-ltb}
@@ -10,7 +10,6 @@ use Rattle.std.specs.declared.option.Option.{Option}
 use Rattle.std.specs.declared.option.Option.the-variants.{Some, None}
 use Rattle.fabric.specs.declared.parts.Port.{Port}
 use Rattle.fabric.specs.declared.parts.Port.the-variants.{N, E, S, W}
-use Rattle.fabric.specs.declared.parts.Flit.{Flit}
 use Rattle.switch.specs.declared.rank.Rank.{Rank}
 use Rattle.switch.specs.declared.rank.Rank.the-variants.{Golden, Ordinary}
 use Rattle.switch.specs.declared.chipper.Lane.{Lane}
@@ -18,8 +17,7 @@ use Rattle.switch.specs.declared.chipper.Block.{Block}
 use Rattle.switch.specs.declared.chipper.Block.the-variants.{Entry, NorthSouth, EastWest}
 use Rattle.switch.specs.Ranks.{gives-way}
 use Rattle.switch.specs.Switches.{Handing, turned}
-use Rattle.switch.specs.Turns.{then}
-use Rattle.switch.specs.Chippers.{by-first, by-second, First-wins, Second-wins, Let-out, Block-law, Chipper-law, wants-second, draw, passed, crossed, lane, entry-turn, exit-turn, halfway, chipper-turn}
+use Rattle.switch.specs.Chippers.{then, by-first, by-second, First-wins, Let-out, Block-law, wants-second, draw, passed, crossed, lane, entry-turn, exit-turn, halfway, chipper-turn}
 
 golden-number : (m n : ℕ) → Golden m ≡ Golden n → m ≡ n
 golden-number m n e = cc
@@ -38,16 +36,17 @@ first-stays d (Some Ordinary) (Some (Golden n)) (inr w) = absurd (mixed n (w .0)
 first-stays d (Some Ordinary) (Some Ordinary) (inl l) = absurd l
 first-stays d (Some Ordinary) (Some Ordinary) (inr w) = w .1 refl
 
-second-passes : (d : Bool) (a b : Option Rank) → Second-wins d a b → gives-way a b d ≡ true
-second-passes d a None w = absurd w
+second-passes : (d : Bool) (a b : Option Rank) → (First-wins d a b → ⊥) → gives-way a b d ≡ true
+second-passes d a None w = absurd (w tt)
 second-passes d None (Some b) w = refl
-second-passes d (Some (Golden m)) (Some (Golden n)) (inl l) = lt-ltb _ _ l
-second-passes d (Some (Golden m)) (Some (Golden n)) (inr w) = absurd (mixed m (sym (w .0)))
-second-passes d (Some (Golden m)) (Some Ordinary) (inl l) = absurd l
-second-passes d (Some (Golden m)) (Some Ordinary) (inr w) = absurd (mixed m (sym (w .0)))
+second-passes d (Some (Golden m)) (Some (Golden n)) w =
+    let l : m < n → ⊥ = λ l. w (inl l) in
+    let e : m ≡ n → ⊥ = λ e. w (inr (ap Golden e, λ o. absurd (mixed m (sym o)))) in
+    lt-ltb _ _ (omega arith)
+second-passes d (Some (Golden m)) (Some Ordinary) w = absurd (w (inl tt))
 second-passes d (Some Ordinary) (Some (Golden n)) w = refl
-second-passes d (Some Ordinary) (Some Ordinary) (inl l) = absurd l
-second-passes d (Some Ordinary) (Some Ordinary) (inr w) = w .2
+second-passes true (Some Ordinary) (Some Ordinary) w = refl
+second-passes false (Some Ordinary) (Some Ordinary) w = absurd (w (inr (refl, λ _. refl)))
 
 -- no port is led to by both outputs
 one-output : (b : Block) (p : Port) → by-first b p ≡ true → by-second b p ≡ false
@@ -76,10 +75,10 @@ let-out b winner loser out crossed straight = record {
     go none None e = straight (ap (wants-second b) e)
     go none (Some w) e = straight (ap (wants-second b) e ∙ none w e .1)
 
-block-lawful : (b : Block) (d : Bool) (i j : Lane) → Block-law b d i j (passed b d i j)
-block-lawful b d i j = record {
-  first-wins = λ w. let g = first-stays d (i .rank) (j .rank) w in let-out b i j _ (λ e. rw (g, e)) (λ e. rw (g, e));
-  second-wins = λ w. let g = second-passes d (i .rank) (j .rank) w in let-out b j i _ (λ e. rw (g, e)) (λ e. rw (g, e));
+pub block-lawful : (b : Block) (d : Bool) (i j : Lane) (out : Lane × Lane) → out ≡ passed b d i j → Block-law b d i j out
+block-lawful b d i j out o = record {
+  first-wins = λ w. let g = first-stays d (i .rank) (j .rank) w in let-out b i j out (λ e. o ∙ rw (g, e)) (λ e. o ∙ rw (g, e));
+  second-wins = λ w. let g = second-passes d (i .rank) (j .rank) w in let-out b j i out (λ e. o ∙ rw (g, e)) (λ e. o ∙ rw (g, e));
 }
 
 module _ (h : Handing) where
@@ -97,30 +96,17 @@ module _ (h : Handing) where
   joined a b false true = refl
   joined a b false false = refl
 
-  pub woven : (a b c d : Lane × Lane)
+  pub wired : (a b c d : Lane × Lane)
       → a ≡ passed Entry (draw h 0) (lane h N) (lane h E)
       → b ≡ passed Entry (draw h 1) (lane h S) (lane h W)
       → c ≡ passed NorthSouth (draw h 2) (a .0) (b .0)
       → d ≡ passed EastWest (draw h 3) (a .1) (b .1)
-      → let out : List (Option Flit) = c .0 .flit ∷ d .0 .flit ∷ c .1 .flit ∷ d .1 .flit ∷ [] in
-      (out ≡ turned (chipper-turn h) (h .places)) × Chipper-law h out
-  woven a b c d ea eb ec ed =
+      → (c .0 .flit ∷ d .0 .flit ∷ c .1 .flit ∷ d .1 .flit ∷ []) ≡ turned (chipper-turn h) (h .places)
+  wired a b c d ea eb ec ed =
       let a′ = ea ∙ sent _ N E in
       let b′ = eb ∙ sent _ S W in
       let c′ = (rw (a′, b′) at ec) ∙ sent _ (halfway h .from N) (halfway h .from S) in
-      let d′ = (rw (a′, b′) at ed) ∙ sent _ (halfway h .from E) (halfway h .from W) in (
-        rw (c′, d′)
-            (joined (crossed h Entry 0 N E) (crossed h Entry 1 S W) (crossed h NorthSouth 2 (halfway h .from N) (halfway h .from S))
-            (crossed h EastWest 3 (halfway h .from E) (halfway h .from W))),
-        record {
-          out-1 = a;
-          out-2 = b;
-          out-3 = c;
-          out-4 = d;
-          block-1 = rw ea (block-lawful Entry (draw h 0) (lane h N) (lane h E));
-          block-2 = rw eb (block-lawful Entry (draw h 1) (lane h S) (lane h W));
-          block-3 = rw ec (block-lawful NorthSouth (draw h 2) (a .0) (b .0));
-          block-4 = rw ed (block-lawful EastWest (draw h 3) (a .1) (b .1));
-          ports = refl;
-        },
-      )
+      let d′ = (rw (a′, b′) at ed) ∙ sent _ (halfway h .from E) (halfway h .from W) in
+      rw (c′, d′)
+      (joined (crossed h Entry 0 N E) (crossed h Entry 1 S W) (crossed h NorthSouth 2 (halfway h .from N) (halfway h .from S))
+      (crossed h EastWest 3 (halfway h .from E) (halfway h .from W)))

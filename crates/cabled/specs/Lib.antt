@@ -1,0 +1,3 @@
+pub mod Cables
+pub mod Levels
+pub mod Tables

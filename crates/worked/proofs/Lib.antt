@@ -1,0 +1,2 @@
+mod Cut
+pub mod Small
