@@ -1,6 +1,6 @@
 -- The outcomes of the calls by which a packet of two words passes.
 use Prim.Native.Nat.{ℕ}
-use mathlib.Core.Path.{_≡_, refl, sym, ap, subst, _∙_}
+use mathlib.Core.Path.{_≡_, refl, ap, ap₂, subst, _∙_}
 use mathlib.Core.List.{List, [], _∷_}
 use native.Mathlib.Omega.{arith}
 use Rattle.fabric.specs.declared.mesh.Mesh.{Mesh}
@@ -14,12 +14,12 @@ use Rattle.line.specs.Queues.{Queue, empty}
 use Rattle.bounds.specs.declared.settings.Settings.{Settings}
 use Rattle.network.specs.declared.event.Event.{Event}
 use Rattle.network.specs.declared.event.Kind.the-variants.{In}
-use Rattle.network.specs.Cycle.{Fabric}
-use Rattle.network.specs.Runs.{Call, Outcome}
-use Rattle.network.specs.Runs.Call.{offer, cycle, collect}
+use Rattle.network.specs.Cycle.{Fabric, State}
+use Rattle.network.specs.Runs.{Call, Outcome, Serves}
+use Rattle.network.specs.Runs.Call.{cycle}
 use Rattle.network.specs.Runs.Outcome.{offering, cycling, collecting, looking}
-use Rattle.network.specs.Computed.{taken, left, entering, ready, handing, arriving, done, outcome, after}
-use Rattle.network.proofs.Solving.{served}
+use Rattle.network.specs.Computed.{outcome, after}
+use Rattle.network.proofs.Solving.{served-one}
 use Rattle.calls.specs.declared.calls.Network.{Network}
 use Rattle.calls.specs.declared.tables.Tables.{Tables}
 use Rattle.calls.specs.Follow.{Promised, Served, Answers, Exactly, Begins}
@@ -38,19 +38,21 @@ small = record { tickets = 1; words = 2; epoch = 4; seed = 1 }
 law : Lawful (mesh-plan 2 1)
 law = mesh-lawful 2 1 (omega arith, omega arith, omega arith)
 
+-- what a run is answered, by computing
 abbrev outcomes : List Call → List Outcome
 outcomes [] = []
 outcomes (k ∷ ks) = outcome net small (after net small ks) k ∷ outcomes ks
 
-computed : (ks : List Call) → Answers net small ks (outcomes ks) (after net small ks)
-computed [] = set-up
-computed (k ∷ ks) = a-call (computed ks) (served net small law (after net small ks) k)
+as-computed : {ks : List Call} {os : List Outcome} {s : State} → Answers net small ks os s → (os ≡ outcomes ks) × (s ≡ after net small ks)
+as-computed set-up = (refl, refl)
+as-computed (a-call {ks} {os} {s} {r} {k} {o} a v) =
+    let e = as-computed a in
+    let x = served-one net small law (after net small ks) (subst (λ (y : State). Serves net small y k o r) (e .1) v) in
+    (ap₂ (λ (y : Outcome) (ys : List Outcome). y ∷ ys) (x .0) (e .0), x .1)
 
 -- the outcomes of calls each of which kept its promise
 the-outcomes : (i j : Tables) → Begins net small i → (ks : List Call) (os : List Outcome) → Served net i ks os j → os ≡ outcomes ks
-the-outcomes i j b ks os v =
-    let x : Exactly net small ks os = subst (λ (P : Settings). Exactly net P ks os) (b .settings) (b .whole ks os j v) in
-    sym (x .only (outcomes ks) (after net small ks) (computed ks) .0)
+the-outcomes i j b ks os v = as-computed (subst (λ (P : Settings). Exactly net P ks os) (b .settings) (b .whole ks os j v) .answers) .0
 
 abbrev no-event : Event
 no-event = record { cycle = 0; kind = In; ticket = 0; number = 0; node = 0; entered = 0 }
@@ -66,6 +68,7 @@ line-in (cycling v q ∷ os) = q
 line-in (collecting v m ∷ os) = line-0
 line-in (looking v ∷ os) = line-0
 
+-- the answer to a collection, and the caller's memory after it
 abbrev brought : List Outcome → Verdict ℕ × List ℕ
 brought [] = (granted 0, [])
 brought (offering v ∷ os) = (granted 0, [])
@@ -73,42 +76,40 @@ brought (cycling v q ∷ os) = (granted 0, [])
 brought (collecting v m ∷ os) = (v, m)
 brought (looking v ∷ os) = (granted 0, [])
 
--- the calls, the newest first
-abbrev run-0 : List Call
-run-0 = offer 0 0 1 (7 ∷ 9 ∷ []) ∷ []
+-- an offer and the cycles after it, the newest first
+module _ (k : Call) where
+  abbrev run-1 : List Call
+  run-1 = cycle line-0 ∷ k ∷ []
 
-abbrev run-1 : List Call
-run-1 = cycle line-0 ∷ run-0
+  abbrev run-2 : List Call
+  run-2 = cycle (line-in (outcomes run-1)) ∷ run-1
 
-abbrev run-2 : List Call
-run-2 = cycle (line-in (outcomes run-1)) ∷ run-1
+  abbrev run-3 : List Call
+  run-3 = cycle (line-in (outcomes run-2)) ∷ run-2
 
-abbrev run-3 : List Call
-run-3 = cycle (line-in (outcomes run-2)) ∷ run-2
+abbrev pub words : Verdict ℕ × List ℕ
+words = (granted 2, 7 ∷ 9 ∷ [])
 
-abbrev whole : List Call
-whole = collect 1 0 0 (0 ∷ 0 ∷ []) ∷ run-3
+-- an offer k and a collection h, with the cycles between them, bring the words by computing
+abbrev pub Brings : Call → Call → Type 0
+Brings k h = brought (outcomes (h ∷ run-3 k)) ≡ words
 
-last : _≡_ {A = Verdict ℕ × List ℕ} (brought (outcomes whole)) (granted 2, 7 ∷ 9 ∷ [])
-unfolding taken left entering ready handing arriving done
-last = refl
-
-brings-so : (i a b c d j : Tables) (q r s t : Queue Event) (u : Verdict (Unit {0})) (v w x y : Verdict ℕ) (m : List ℕ) →
-    Begins net small i → q ≡ line-0 → Promised net i a (offer 0 0 1 (7 ∷ 9 ∷ [])) (offering u) →
+brings-so : (i a b c d j : Tables) (k h : Call) (q r s t : Queue Event) (o : Outcome) (v w x y : Verdict ℕ) (m : List ℕ) →
+    Begins net small i → q ≡ line-0 → Promised net i a k o →
     Promised net a b (cycle q) (cycling v r) → Promised net b c (cycle r) (cycling w s) → Promised net c d (cycle s) (cycling x t) →
-    Promised net d j (collect 1 0 0 (0 ∷ 0 ∷ [])) (collecting y m) → _≡_ {A = Verdict ℕ × List ℕ} (y, m) (granted 2, 7 ∷ 9 ∷ [])
-brings-so i a b c d j q r s t u v w x y m set e offers one two three collects =
-    let done-0 : Served net i run-0 (offering u ∷ []) a = served-more begun offers in
-    let done-1 : Served net i run-1 (cycling v r ∷ offering u ∷ []) b =
-    served-more done-0 (subst (λ (z : Queue Event). Promised net a b (cycle z) (cycling v r)) e one) in
-    let e-1 : r ≡ line-in (outcomes run-1) = ap line-in (the-outcomes i b set run-1 _ done-1) in
-    let done-2 : Served net i run-2 (cycling w s ∷ cycling v r ∷ offering u ∷ []) c =
+    Promised net d j h (collecting y m) → Brings k h → (y, m) ≡ words
+brings-so i a b c d j k h q r s t o v w x y m set e offers one two three collects last =
+    let done-1 : Served net i (run-1 k) (cycling v r ∷ o ∷ []) b =
+    served-more (served-more begun offers) (subst (λ (z : Queue Event). Promised net a b (cycle z) (cycling v r)) e one) in
+    let e-1 : r ≡ line-in (outcomes (run-1 k)) = ap line-in (the-outcomes i b set (run-1 k) _ done-1) in
+    let done-2 : Served net i (run-2 k) (cycling w s ∷ cycling v r ∷ o ∷ []) c =
     served-more done-1 (subst (λ (z : Queue Event). Promised net b c (cycle z) (cycling w s)) e-1 two) in
-    let e-2 : s ≡ line-in (outcomes run-2) = ap line-in (the-outcomes i c set run-2 _ done-2) in
-    let done-3 : Served net i run-3 (cycling x t ∷ cycling w s ∷ cycling v r ∷ offering u ∷ []) d =
+    let e-2 : s ≡ line-in (outcomes (run-2 k)) = ap line-in (the-outcomes i c set (run-2 k) _ done-2) in
+    let done-3 : Served net i (run-3 k) (cycling x t ∷ cycling w s ∷ cycling v r ∷ o ∷ []) d =
     served-more done-2 (subst (λ (z : Queue Event). Promised net c d (cycle z) (cycling x t)) e-2 three) in
-    ap brought (the-outcomes i j set whole _ (served-more done-3 collects)) ∙ last
+    ap brought (the-outcomes i j set (h ∷ run-3 k) _ (served-more done-3 collects)) ∙ last
 
+-- the plan of a layout that was granted
 abbrev plan-in : Verdict Plan → Plan
 plan-in (granted p) = p
 plan-in (refused k vs) = mesh-plan 2 1
@@ -123,19 +124,19 @@ module _ {C : Type 0} where
     pub layout : m .layout ≡ n .layout
 
   -- the calls of a network of two nodes bring these words
-  pub brings : (mesh : Mesh) (z n a b c d j : Network Mesh C) {q r s t : Queue Event} {u : Verdict (Unit {0})} {v w x y : Verdict ℕ} {m : List ℕ} →
+  pub brings : (mesh : Mesh) (z n a b c d j : Network Mesh C) {k h : Call} {q r s t : Queue Event} {o : Outcome} {v w x y : Verdict ℕ} {m : List ℕ} →
       granted (mesh-plan (mesh .width) (mesh .height)) ≡ granted (mesh-plan 2 1) → z .layout ≡ mesh →
       Begins (over (plan-of z)) small (n .inner) → n .layout ≡ z .layout → q ≡ line-0 →
-      Moves n a (offer 0 0 1 (7 ∷ 9 ∷ [])) (offering u) → Moves a b (cycle q) (cycling v r) → Moves b c (cycle r) (cycling w s) → Moves c d (cycle s) (cycling x t) →
-      Moves d j (collect 1 0 0 (0 ∷ 0 ∷ [])) (collecting y m) → _≡_ {A = Verdict ℕ × List ℕ} (y, m) (granted 2, 7 ∷ 9 ∷ [])
-  brings mesh z n a b c d j {q} {r} {s} {t} {u} {v} {w} {x} {y} {m} two-nodes its set same l offers one two three collects =
+      Moves n a k o → Moves a b (cycle q) (cycling v r) → Moves b c (cycle r) (cycling w s) → Moves c d (cycle s) (cycling x t) →
+      Moves d j h (collecting y m) → Brings k h → (y, m) ≡ words
+  brings mesh z n a b c d j {k} {h} {q} {r} {s} {t} {o} {v} {w} {x} {y} {m} two-nodes its set same l offers one two three collects last =
       let at-a : a .layout ≡ z .layout = offers .layout ∙ same in
       let at-b : b .layout ≡ z .layout = one .layout ∙ at-a in
       let at-c : c .layout ≡ z .layout = two .layout ∙ at-b in
       let at-d : d .layout ≡ z .layout = three .layout ∙ at-c in
-      brings-so (n .inner) (a .inner) (b .inner) (c .inner) (d .inner) (j .inner) q r s t u v w x y m
+      brings-so (n .inner) (a .inner) (b .inner) (c .inner) (d .inner) (j .inner) k h q r s t o v w x y m
       (subst (λ (p : Plan). Begins (over p) small (n .inner)) e set) l
-      (here n a same offers) (here a b at-a one) (here b c at-b two) (here c d at-c three) (here d j at-d collects)
+      (here n a same offers) (here a b at-a one) (here b c at-b two) (here c d at-c three) (here d j at-d collects) last
     where
       e : plan-of z ≡ mesh-plan 2 1
       e = ap (λ (x : Mesh). mesh-plan (x .width) (x .height)) its ∙ ap plan-in two-nodes

@@ -5,7 +5,7 @@ ghost use Rattle.network.specs.Cycle.{State};
 ghost use Rattle.network.specs.Runs.{Call};
 ghost use Rattle.calls.specs.Follow.{Follows};
 ghost use Rattle.uses.specs.History.{Ran-on};
-use calls::calls::Network;
+use calls::Network;
 use fabric::layout::Layout;
 use line::Line;
 use network::event::Event;

@@ -3,7 +3,7 @@ ghost use mathlib.Core.Path.{_≡_};
 ghost use mathlib.Core.List.{[], _∷_};
 ghost use Rattle.std.specs.declared.result.Result.the-variants.{Ok};
 use bounds::settings::Settings;
-use calls::calls::Network;
+use calls::Network;
 use fabric::mesh::Mesh;
 use fabric::mesh::MeshLayout;
 use fabric::refusal::Refusal;
