@@ -1,7 +1,7 @@
 -- A caller's own history.
 use Prim.Native.Nat.{ℕ}
 use mathlib.Core.Path.{_≡_}
-use mathlib.Core.List.{List, [], _∷_, _++_}
+use mathlib.Core.List.{List, [], _∷_}
 use lib.ListN.{length}
 use Rattle.line.specs.Queues.{Queue}
 use Rattle.network.specs.declared.event.Event.{Event}

@@ -44,7 +44,7 @@ pub fn two_words() -> Result<[u32; 2], Refusal>
     let mut events = [NO_EVENT; 8];
     let mut line = Line::new(&mut events);
     let mut received = [0; 2];
-    // the answer to the last call tells of all of them
+    // the collection is granted only if all of these are
     let _ = network.offer(FROM, 0, TO, &sent);
     let _ = network.cycle(&mut line);
     let _ = network.cycle(&mut line);
