@@ -7,15 +7,21 @@ use mathlib.Core.List.{List}
 use lib.Dec.{eqb}
 use lib.ListN.{length, getD}
 use Rattle.fabric.specs.declared.parts.Cable.{Cable}
+use Rattle.fabric.specs.declared.parts.Flit.{Flit}
 use Rattle.fabric.specs.Layouts.{Plan}
 use Rattle.fabric.specs.Meshes.{mesh-plan, mesh-verdict}
 use Rattle.fabric.specs.Verdicts.{Verdict, granting}
 use Rattle.cabled.specs.Cables.{Cabling, lone}
 use Rattle.cabled.specs.Tables.{cabled-plan}
+use Rattle.switch.specs.Switches.{Handing, Turn, Lawful-switch}
 use Rattle.bounds.specs.declared.settings.Settings.{Settings}
 use Rattle.bounds.specs.declared.limits.Limits.{Limits}
 use Rattle.bounds.specs.SetUp.{set-up-verdict}
 use Rattle.bounds.specs.Lateness.{limits-of}
+use Rattle.network.specs.Log.Happening.{entered}
+use Rattle.network.specs.Cycle.{State}
+use Rattle.network.specs.Runs.{Call, Leads}
+use Rattle.network.specs.Promises.{Stands, Off-once}
 use Rattle.sheet.specs.declared.fault.Fault.{Fault}
 use Rattle.sheet.specs.declared.fault.Layer.the-variants.{Layout, Network}
 use Rattle.sheet.specs.declared.parts.Shape.{Shape}
@@ -44,6 +50,18 @@ settings-of r = record { tickets = r .tickets; words = r .words; epoch = r .epoc
 abbrev pub limited : Run → Plan → Report Limits
 limited r p = by-layer Network (λ _ _. 2) (granting (λ _. limits-of p (settings-of r)) (set-up-verdict p (settings-of r)))
 
+-- in every network of this plan and these settings, whatever its switch and whatever calls come,
+-- a flit that entered is taken off, once and at its destination, once l more cycles are carried out
+abbrev pub Off-within : Plan → Settings → ℕ → Type 0
+Off-within p P l =
+    (turn : Handing → Turn) → Lawful-switch turn → (run : List Call) (s : State) → Leads (record { plan = p; turn = turn }) P run s →
+    (f : Flit) (n : ℕ) → Stands (entered f n) (s .log) → f .entered + 1 + l ≤ s .cycles → Off-once f (s .log)
+
+-- the limit that is answered is kept
+abbrev pub Vouched : Run → Report (Plan × Limits) → Type 0
+Vouched r (answers a) = Off-within (a .0) (settings-of r) (a .1 .latest)
+Vouched r (faults x) = Unit {0}
+
 -- the layout is judged before the settings
 abbrev pub Answers : Asked → Report (Plan × Limits) → Type 0
 Answers q r = (v : Report Plan) × Laid (q .shape) (q .cables) v × (r ≡ then v (λ p. then (limited (q .run) p) (λ l. answers (p, l))))
@@ -51,7 +69,7 @@ Answers q r = (v : Report Plan) × Laid (q .shape) (q .cables) v × (r ≡ then 
 -- the bytes are a question's text and it is answered, or they are none, by this fault
 abbrev pub Answered : List ℕ → Report (Plan × Limits) → Type 0
 Answered bs r =
-    ((q : Asked) × (length bs ≤ 65536) × Formed 128 q × (bs ≡ asked-text q) × Answers q r)
+    ((q : Asked) × (length bs ≤ 65536) × Formed 128 q × (bs ≡ asked-text q) × Answers q r × Vouched (q .run) r)
     ⊎ ((f : Fault) × Refused bs f × (r ≡ faults (told f)))
 
 -- what an answer of the code means

@@ -3,11 +3,12 @@ ghost use Prim.Native.Nat.{_<_, _≤_};
 ghost use mathlib.Core.List.{[]};
 ghost use mathlib.Core.Path.{_≡_};
 ghost use lib.ListN.{length, getD};
+ghost use Rattle.std.specs.Results.{Cases};
 ghost use Rattle.fabric.specs.Meshes.{mesh-plan};
 ghost use Rattle.fabric.specs.Refusals.{numbered};
 ghost use Rattle.cabled.specs.Tables.{cabled-plan};
 ghost use Rattle.sheet.specs.declared.parts.Shape.{Shape as Form};
-ghost use Rattle.limit.specs.Answers.{layout-line, Laid, limited, Answered, meant};
+ghost use Rattle.limit.specs.Answers.{layout-line, Laid, settings-of, limited, Off-within, Answered, meant};
 ghost use Rattle.limit.specs.Reports.{reported};
 use bounds::limits::Limits;
 use bounds::settings::Settings;
@@ -78,7 +79,8 @@ fn lay_cables(nodes: u32, cables: &[Cable]) -> Result<Cabled, Fault>
 }
 
 fn bound<L: Layout>(layout: &L, run: Run) -> Result<Limits, Fault>
-    ensures { λ r. ⌜ reported (λ l. l) r ≡ limited run (plan (now (layout .entry))) ⌝ }
+    ensures exact { λ r. ⌜ reported (λ l. l) r ≡ limited run (plan (now (layout .entry))) ⌝ }
+    ensures kept { λ r. ⌜ Cases r (λ l. Off-within (plan (now (layout .entry))) (settings-of run) (l .latest)) (λ _. Unit {0}) ⌝ }
 {
     let settings = Settings {
         tickets: run.tickets as usize,

@@ -17,7 +17,7 @@ returns-in-Break-mesh c =
 pub returns-in-Break-limits : need.returns-in-Break-limits
 returns-in-Break-limits c =
     reported-err _ (Answered (c .args .bytes .now)) _ _ (err-from-errBy _ (c .from-residual-in-Break-limits .ensures .1))
-    (no-limits _ _ (c .in-Continue-question .ensures tt) _ (as-read _ _ _ (c .in-Mesh .is) refl (c .in-Continue-mesh .ensures tt)) _ (c .in-Break-limits .ensures tt))
+    (no-limits _ _ (c .in-Continue-question .ensures tt) _ (as-read _ _ _ (c .in-Mesh .is) refl (c .in-Continue-mesh .ensures tt)) _ (c .in-Break-limits .ensures tt .exact))
 
 pub returns-in-Break-layout : need.returns-in-Break-layout
 returns-in-Break-layout c =
@@ -27,12 +27,12 @@ returns-in-Break-layout c =
 pub returns-in-Break-limits-2 : need.returns-in-Break-limits-2
 returns-in-Break-limits-2 c =
     reported-err _ (Answered (c .args .bytes .now)) _ _ (err-from-errBy _ (c .from-residual-in-Break-limits-2 .ensures .1))
-    (no-limits _ _ (c .in-Continue-question .ensures tt) _ (as-read _ _ _ (c .in-Cabled .is) (c .cables .ensures) (c .in-Continue-layout .ensures tt)) _ (c .in-Break-limits-2 .ensures tt))
+    (no-limits _ _ (c .in-Continue-question .ensures tt) _ (as-read _ _ _ (c .in-Cabled .is) (c .cables .ensures) (c .in-Continue-layout .ensures tt)) _ (c .in-Break-limits-2 .ensures tt .exact))
 
 pub returns-in-Continue-limits : need.returns-in-Continue-limits
 returns-in-Continue-limits c =
-    all _ _ (c .in-Continue-question .ensures tt) _ (as-read _ _ _ (c .in-Mesh .is) refl (c .in-Continue-mesh .ensures tt)) _ (c .in-Continue-limits .ensures tt)
+    all _ _ (c .in-Continue-question .ensures tt) _ (as-read _ _ _ (c .in-Mesh .is) refl (c .in-Continue-mesh .ensures tt)) _ (c .in-Continue-limits .ensures tt .exact) (c .in-Continue-limits .ensures tt .kept)
 
 pub returns-in-Continue-limits-2 : need.returns-in-Continue-limits-2
 returns-in-Continue-limits-2 c =
-    all _ _ (c .in-Continue-question .ensures tt) _ (as-read _ _ _ (c .in-Cabled .is) (c .cables .ensures) (c .in-Continue-layout .ensures tt)) _ (c .in-Continue-limits-2 .ensures tt)
+    all _ _ (c .in-Continue-question .ensures tt) _ (as-read _ _ _ (c .in-Cabled .is) (c .cables .ensures) (c .in-Continue-layout .ensures tt)) _ (c .in-Continue-limits-2 .ensures tt .exact) (c .in-Continue-limits-2 .ensures tt .kept)
