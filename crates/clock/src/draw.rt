@@ -2,7 +2,7 @@
 ghost use mathlib.Core.Path.{_≡_};
 ghost use Rattle.clock.specs.Draws.{shifted};
 
-// A maximal LFSR of 16 bits: from any seed but 0 it comes back only after 65,535 shifts.
+// Which bits of the LFSR are turned where a 1 is shifted out.
 const TAPS: u16 = 0xB400;
 
 pub fn shift(register: u16) -> u16
