@@ -80,15 +80,7 @@ impl Writer {
     }
 
     fn cycle(&mut self, network: &mut Network, nodes: usize) {
-        let blank = Event {
-            cycle: 0,
-            kind: Kind::In,
-            ticket: 0,
-            number: 0,
-            node: 0,
-            entry: 0,
-        };
-        let mut memory = vec![blank; 2 * nodes];
+        let mut memory = vec![Event::BLANK; 2 * nodes];
         let mut events = Line::new(&mut memory);
         // Never refused: the line has room for two events of each node,
         // and a sheet has far fewer cycles than a network can carry out.

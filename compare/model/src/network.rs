@@ -65,6 +65,16 @@ pub struct Event {
 }
 
 impl Event {
+    /// What the memory of an event line holds before any event is put.
+    pub const BLANK: Event = Event {
+        cycle: 0,
+        kind: Kind::In,
+        ticket: 0,
+        number: 0,
+        node: 0,
+        entry: 0,
+    };
+
     fn of(flit: &Flit, kind: Kind, cycle: u32, node: usize) -> Event {
         let Flit {
             ticket,
@@ -360,15 +370,6 @@ impl Network {
 mod tests {
     use super::*;
 
-    const NOTHING: Event = Event {
-        cycle: 0,
-        kind: Kind::In,
-        ticket: 0,
-        number: 0,
-        node: 0,
-        entry: 0,
-    };
-
     fn pair() -> Network {
         Network::new(Layout::mesh(2, 1).expect("a lawful size"), Switch::Chipper)
     }
@@ -383,7 +384,7 @@ mod tests {
     }
 
     fn step(network: &mut Network) -> Result<u32, Refusal> {
-        let mut memory = [NOTHING; 128];
+        let mut memory = [Event::BLANK; 128];
         network.cycle(&mut Line::new(&mut memory))
     }
 
@@ -480,7 +481,7 @@ mod tests {
     #[test]
     fn cycle_refusals_in_order() {
         let mut network = pair();
-        let mut memory = [NOTHING; 4];
+        let mut memory = [Event::BLANK; 4];
         assert_eq!(
             network.cycle(&mut Line::new(&mut memory[..3])),
             Err(Refusal::Events)
