@@ -1,4 +1,6 @@
 // A network: its tables, and the calls that it answers.
+#![tactic(auto)]
+
 pub mod calls;
 mod steps;
 mod tables;

@@ -1,4 +1,6 @@
 // Prints a worked contest of each switch: for each flit its slot, its wish and the port by which it leaves.
+#![tactic(auto)]
+
 use fabric::parts::{Flit, Port};
 use std::io;
 use switch::bless::Bless;

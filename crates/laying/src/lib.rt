@@ -1,4 +1,6 @@
 // Lays out what a sheet names: its layout and its settings, or the fault at the line that is refused.
+#![tactic(auto)]
+
 ghost use Rattle.std.specs.Prelude.{◌≡◌, ◌<◌, [], slice_index};
 ghost use Rattle.fabric.specs.Meshes.{mesh_plan};
 ghost use Rattle.fabric.specs.Refusals.{number, numbered};

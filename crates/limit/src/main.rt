@@ -1,5 +1,7 @@
 // How late can a word be? Reads a layout line and a run line in the run sheet's form,
 // and prints the limits and the way of a lone flit between the nodes farthest apart.
+#![tactic(auto)]
+
 mod answer;
 
 use answer::{Answer, reply};

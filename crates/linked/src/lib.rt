@@ -1,4 +1,6 @@
 // The listing for programs in C or Rust that link this library.
+#![tactic(auto)]
+
 ghost use Rattle.linked.specs.Linked.{Answered};
 
 use runner::list::list;

@@ -1,4 +1,6 @@
 // Reads a run sheet on standard input, and prints its listing.
+#![tactic(auto)]
+
 use anyhow::anyhow;
 use runner::list::list;
 use std::io::{Read, Write};

@@ -1,4 +1,6 @@
 // The listing of a run sheet.
+#![tactic(auto)]
+
 pub mod list;
 mod session;
 mod tally;

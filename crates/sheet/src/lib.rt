@@ -1,4 +1,6 @@
 // Texts in lines of fields: what they say where they are of their form, and their faults where they are not.
+#![tactic(auto)]
+
 pub mod fault;
 mod field;
 mod lines;

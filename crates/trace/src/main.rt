@@ -1,5 +1,7 @@
 // Runs a small network and prints what happens in it. Six cards stand in a mesh of three columns and two rows;
 // each but the last sends two words to the last, which sends two to the first.
+#![tactic(auto)]
+
 use anyhow::anyhow;
 use bounds::settings::Settings;
 use calls::Network;

@@ -1,4 +1,6 @@
 // The worked examples: one table, proved against the definitions that every contract cites.
+#![tactic(auto)]
+
 ghost use Rattle.std.specs.Prelude.{◌≡◌, length};
 ghost use Rattle.std.specs.List.{AllByRecursion as All};
 ghost use Rattle.worked.specs.Table.{table, Right};

@@ -1,4 +1,6 @@
 // The listing of a run, written line by line into memory that the caller lends.
+#![tactic(auto)]
+
 #[cfg(test)]
 mod tests;
 mod widths;

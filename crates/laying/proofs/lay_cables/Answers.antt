@@ -6,8 +6,8 @@ use Rattle.laying.specs.Reports.Report.{faults}
 use Rattle.laying.proofs.Laying.{as_plans, named_below}
 use Rattle.laying.proofs.lay_cables.Goals as goal
 
-pub line-of-requires : goal.line-of-requires
-line-of-requires c =
+pub line_of-requires : goal.line_of-requires
+line_of-requires c =
     let s = c.args.sheet.now in
     named_below (omega (arith, s.wired, ap length c.cables.ensures, length-take s.wires s.cables)) c.in-Err.ensures
 
@@ -19,5 +19,5 @@ returns-in-Err c = (
   _,
   _,
   as_plans _ c.new-layout.ensures.plan c.cables.ensures c.in-Err.ensures,
-  ap (λ (k : ℕ). faults (number c.in-Err.refusal, Layout, k)) c.line-of.ensures,
+  ap (λ (k : ℕ). faults (number c.in-Err.refusal, Layout, k)) c.line_of.ensures,
 )

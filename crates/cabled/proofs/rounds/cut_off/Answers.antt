@@ -7,4 +7,4 @@ pub loop-node-preserved : goal.loop-node-preserved
 loop-node-preserved c =
     let n = c.loop-node.node in
     below_more (λ u. (k : ℕ) × Way (next_at c.args.ends.now) 0 k u) n c.loop-node.invariant
-    (⊎_elim (λ a. (get_or c.levels-row.result n 0, a.1.0)) (λ a. absurd (c.if-row-node-eq-NO-WAY.false a.0)) (c.levels-row.ensures n c.loop-node-test.true))
+    (⊎_elim (λ a. (get_or c.levels-row.result n 0, a.1.0)) (λ a. absurd (c.if-row-node-eq-NO_WAY.false a.0)) (c.levels-row.ensures n c.loop-node-test.true))

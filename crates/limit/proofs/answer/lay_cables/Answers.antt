@@ -6,12 +6,12 @@ use Rattle.limit.specs.Reports.Report.{faults}
 use Rattle.limit.proofs.Answering.{as_plans, named_below}
 use Rattle.limit.proofs.answer.lay_cables.Goals as goal
 
-pub line-of-requires : goal.line-of-requires
-line-of-requires c = named_below c.requires c.in-Err.ensures
+pub line_of-requires : goal.line_of-requires
+line_of-requires c = named_below c.requires c.in-Err.ensures
 
 pub returns-in-Ok : goal.returns-in-Ok
 returns-in-Ok c = (_, _, as_plans _ c.new-layout.ensures.plan c.in-Ok.ensures, refl)
 
 pub returns-in-Err : goal.returns-in-Err
 returns-in-Err c =
-    (_, _, as_plans _ c.new-layout.ensures.plan c.in-Err.ensures, ap (λ (k : ℕ). faults (number c.in-Err.refusal, Layout, k)) c.line-of.ensures)
+    (_, _, as_plans _ c.new-layout.ensures.plan c.in-Err.ensures, ap (λ (k : ℕ). faults (number c.in-Err.refusal, Layout, k)) c.line_of.ensures)

@@ -9,18 +9,18 @@ use Rattle.runner.proofs.list.plan_all.Goals as goal
 pub loop-packet-init : goal.loop-packet-init
 loop-packet-init c = let h = c.requires in (sym (append-nil (holds c.args.planned.now)), omega arith, refl)
 
-pub returns-in-err-put : goal.returns-in-err-put
-returns-in-err-put c =
+pub returns-in_err-put : goal.returns-in_err-put
+returns-in_err-put c =
     let l = c.loop-packet in
     let a = l.invariant.1 in
     let b = c.loop-packet-test.true in
-    absurd (never_full (queue_of l.planned) _ _ (omega arith) c.in-err-put.ensures.answer)
+    absurd (never_full (queue_of l.planned) _ _ (omega arith) c.in_err-put.ensures.answer)
 
 pub loop-packet-preserved : goal.loop-packet-preserved
 loop-packet-preserved c =
     let l = c.loop-packet in
     let i = l.invariant in
-    let e = c.in-ok-put.ensures in
+    let e = c.in_ok-put.ensures in
     let a = i.1 in
     let b = c.loop-packet-test.true in
     let free : 0 < free_places (queue_of l.planned) = omega arith in

@@ -18,13 +18,13 @@ pub play-requires : goal.play-requires
 play-requires g c =
     let s = said c.args.sheet.now in
     let n = c.new-network.ensures.parts in
-    let e = c.in-ok-set-up.ensures in
+    let e = c.in_ok-set_up.ensures in
     let set_up = c.set_up.new.self in
     let begins =
     subst₂ (λ (a : g.row.L.Denot) (b : g.row.S.Denot). Begins (record { plan = g.L.Layout.plan a; turn = g.S.Switch.turn b }) c.settings-settings.result set_up.inner) (sym e.parts.0) (sym e.parts.1) (e.begins refl) in
     let nodes = c.nodes-nodes.ensures ∙ ap (λ (a : g.row.L.Denot). (g.L.Layout.plan a).nodes) (sym (e.parts.0 ∙ n.0)) in
-    let all : holds c.plan-all.new.planned ≡ s.packets =
-    c.in-ok-plan-all.ensures.planned.1 ∙ ap (λ (q : Queue Packet). contents q ++ c.packets.result.now) c.new-planned.ensures.queue ∙ c.packets.ensures in
+    let all : holds c.plan_all.new.planned ≡ s.packets =
+    c.in_ok-plan_all.ensures.planned.1 ∙ ap (λ (q : Queue Packet). contents q ++ c.packets.result.now) c.new-planned.ensures.queue ∙ c.packets.ensures in
     let few = c.requires.0.packets in
     record {
       settings = c.settings-settings.result;
@@ -39,13 +39,13 @@ pub returns : goal.returns
 returns g c =
     let s = said c.args.sheet.now in
     let n = c.new-network.ensures.parts in
-    let e = c.in-ok-set-up.ensures in
+    let e = c.in_ok-set_up.ensures in
     let set_up = c.set_up.new.self in
     let begins =
     subst₂ (λ (a : g.row.L.Denot) (b : g.row.S.Denot). Begins (record { plan = g.L.Layout.plan a; turn = g.S.Switch.turn b }) c.settings-settings.result set_up.inner) (sym e.parts.0) (sym e.parts.1) (e.begins refl) in
     let nodes = c.nodes-nodes.ensures ∙ ap (λ (a : g.row.L.Denot). (g.L.Layout.plan a).nodes) (sym (e.parts.0 ∙ n.0)) in
-    let all : holds c.plan-all.new.planned ≡ s.packets =
-    c.in-ok-plan-all.ensures.planned.1 ∙ ap (λ (q : Queue Packet). contents q ++ c.packets.result.now) c.new-planned.ensures.queue ∙ c.packets.ensures in
+    let all : holds c.plan_all.new.planned ≡ s.packets =
+    c.in_ok-plan_all.ensures.planned.1 ∙ ap (λ (q : Queue Packet). contents q ++ c.packets.result.now) c.new-planned.ensures.queue ∙ c.packets.ensures in
     let F : Fabric = record { plan = g.L.Layout.plan c.args.layout; turn = g.S.Switch.turn c.args.switch } in
     let m = c.play.ensures.played in
     let same : record { plan = g.L.Layout.plan set_up.layout; turn = g.S.Switch.turn set_up.switch } ≡ F =

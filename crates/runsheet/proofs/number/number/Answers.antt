@@ -16,13 +16,13 @@ returns-then-word-eq0 c = (
 
 pub returns-then-word-gt1 : goal.returns-then-word-gt1
 returns-then-word-gt1 c = (
-  c.ill-formed-then-word-gt1.ensures,
+  c.ill_formed-then-word-gt1.ensures,
   unwritten c.args.word.now (λ n h w. omega (arith, w.first c.if-word-eq48.true)),
 )
 
 pub returns-then-b-lt48 : goal.returns-then-b-lt48
 returns-then-b-lt48 c = (
-  c.ill-formed-then-b-lt48.ensures,
+  c.ill_formed-then-b-lt48.ensures,
   unwritten c.args.word.now (no_digit c.args.word.now c.loop-b.b-index c.loop-b-test.true
       (elim c.then-b-lt48.branch [
         | then-b-lt48-via-then-b-lt48 v ↦ inl v.if-b-lt48.true
@@ -46,7 +46,7 @@ whole ds i n l e = e ∙ ap (digits_value 10) (take_all i ds l)
 
 pub returns-then-n-gt-LARGEST : goal.returns-then-n-gt-LARGEST
 returns-then-n-gt-LARGEST c = (
-  c.ill-formed-then-n-gt-LARGEST.ensures,
+  c.ill_formed-then-n-gt-LARGEST.ensures,
   unwritten c.args.word.now (λ n h w.
       omega (arith, whole c.args.word.now c.loop-b.b-index c.loop-b.n c.loop-b-test.false c.loop-b.invariant.0, w.same)),
 )

@@ -9,31 +9,31 @@ use Rattle.runsheet.proofs.Stopping.{onward, shorter}
 use Rattle.runsheet.proofs.Stopped.{refused, missing, finished}
 use Rattle.runsheet.proofs.reader.read.Goals as goal
 
-pub returns-in-err-rest : goal.returns-in-err-rest
-returns-in-err-rest c =
+pub returns-in_err-rest : goal.returns-in_err-rest
+returns-in_err-rest c =
     let bs = c.args.bytes.now in
     let r = c.loop-rest.reader in
     let i = c.loop-rest.invariant in
-    err_at _ (Refused bs) _ _ (err_from_is_err_and _ c.from-residual.ensures.1)
-    (refused (draft r) bs c.loop-rest.rest.now i.0.valid i.1 (omega arith) _ r.line i.0.line c.in-err-rest.ensures (λ z. omega (arith, ap length z, c.loop-rest-test.true)))
+    err_at _ (Refused bs) _ _ (err_from_is_err_and _ c.from_residual.ensures.1)
+    (refused (draft r) bs c.loop-rest.rest.now i.0.valid i.1 (omega arith) _ r.line i.0.line c.in_err-rest.ensures (λ z. omega (arith, ap length z, c.loop-rest-test.true)))
 
 pub loop-rest-smaller : goal.loop-rest-smaller
-loop-rest-smaller c = let h = c.in-ok-rest.ensures in shorter (entry_line h.0) _ _ h.2
+loop-rest-smaller c = let h = c.in_ok-rest.ensures in shorter (entry_line h.0) _ _ h.2
 
 pub loop-rest-preserved : goal.loop-rest-preserved
 loop-rest-preserved c =
-    let h = c.in-ok-rest.ensures in
+    let h = c.in_ok-rest.ensures in
     let i = c.loop-rest.invariant in
     (h.1.sound, onward (lines_read (draft c.loop-rest.reader)) _ (entry_line h.0) c.args.bytes.now c.loop-rest.rest.now _ i.1 h.1.lines h.2)
 
-pub overflow-add-reader : goal.overflow-add-reader
-overflow-add-reader c = let h = short _ c.loop-rest.invariant.0 in search (rules, h)
+pub overflow_add-reader : goal.overflow_add-reader
+overflow_add-reader c = let h = short _ c.loop-rest.invariant.0 in search (rules, h)
 
-pub returns-in-default : goal.returns-in-default
-returns-in-default c =
+pub returns-in_default : goal.returns-in_default
+returns-in_default c =
     let r = c.loop-rest.reader in
     let i = c.loop-rest.invariant in
-    missing (draft r) c.args.bytes.now c.loop-rest.rest.now i.0.valid i.1 (omega arith) _ r.line i.0.line c.ill_formed.ensures c.in-default.not-End (nil_from_length _ (omega (arith, c.loop-rest-test.false)))
+    missing (draft r) c.args.bytes.now c.loop-rest.rest.now i.0.valid i.1 (omega arith) _ r.line i.0.line c.ill_formed.ensures c.in_default.not-End (nil_from_length _ (omega (arith, c.loop-rest-test.false)))
 
 pub returns-in-End : goal.returns-in-End
 returns-in-End c =

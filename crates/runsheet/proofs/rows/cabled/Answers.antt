@@ -7,10 +7,10 @@ use Rattle.runsheet.proofs.Words.{mesh_apart}
 use Rattle.runsheet.proofs.Exits.{passed, rest_of}
 use Rattle.runsheet.proofs.rows.cabled.Goals as goal
 
-pub returns-in-err-nodes : goal.returns-in-err-nodes
-returns-in-err-nodes c =
-    passed shape_line Any _ _ _ _ (err_from_is_err_and _ c.from-residual.ensures.1) c.in-err-nodes.ensures.words.0
+pub returns-in_err-nodes : goal.returns-in_err-nodes
+returns-in_err-nodes c =
+    passed shape_line Any _ _ _ _ (err_from_is_err_and _ c.from_residual.ensures.1) c.in_err-nodes.ensures.words.0
     (elim [
       | Mesh w h ↦ λ fits p e. mesh_apart _ _ (sym e)
-      | Cabled n ↦ λ fits p e. c.in-err-nodes.ensures.words.1 n [] fits.1.0 (rest_of e)
+      | Cabled n ↦ λ fits p e. c.in_err-nodes.ensures.words.1 n [] fits.1.0 (rest_of e)
     ])

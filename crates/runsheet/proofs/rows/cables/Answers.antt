@@ -7,10 +7,10 @@ use Rattle.runsheet.proofs.rows.cables.Goals as goal
 
 pub returns-in-Mesh : goal.returns-in-Mesh
 returns-in-Mesh c =
-    let n = c.in-ok-count.ensures in (
+    let n = c.in_ok-count.ensures in (
       c.fault.ensures ∙ ap ill_formed n.line,
       λ x fits u e.
           let none : x ≡ 0 = subst (λ s. Uncabled s x) c.in-Mesh.is u in
-          let same : c.in-ok-count.count ≡ x = decimal_injective _ _ (omega (arith, n.words.1.0)) (omega (arith, fits.1.0)) (first_of n.words.0 (rest_of e)) in
+          let same : c.in_ok-count.count ≡ x = decimal_injective _ _ (omega (arith, n.words.1.0)) (omega (arith, fits.1.0)) (first_of n.words.0 (rest_of e)) in
           omega arith,
     )

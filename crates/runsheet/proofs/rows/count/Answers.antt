@@ -4,10 +4,10 @@ use Rattle.runsheet.specs.Texts.{number, Any}
 use Rattle.runsheet.proofs.Exits.{passed}
 use Rattle.runsheet.proofs.rows.count.Goals as goal
 
-pub returns-in-err-count : goal.returns-in-err-count
-returns-in-err-count c =
-    let h = c.in-err-count.ensures in
+pub returns-in_err-count : goal.returns-in_err-count
+returns-in_err-count c =
+    let h = c.in_err-count.ensures in
     record {
-      words = passed (λ n. number n ∷ []) Any _ _ _ _ (err_from_is_err_and _ c.from-residual.ensures.1) h.words.0 (λ x fits p e. h.words.1 x [] fits.0 e);
+      words = passed (λ n. number n ∷ []) Any _ _ _ _ (err_from_is_err_and _ c.from_residual.ensures.1) h.words.0 (λ x fits p e. h.words.1 x [] fits.0 e);
       line = h.line;
     }

@@ -8,29 +8,29 @@ use Rattle.runsheet.proofs.Exits.{opened}
 use Rattle.runsheet.proofs.Payload.{figures, figures_more, fits_more, figures_next, fits_at}
 use Rattle.runsheet.proofs.rows.payload.Goals as goal
 
-pub returns-in-err-words : goal.returns-in-err-words
-returns-in-err-words c =
+pub returns-in_err-words : goal.returns-in_err-words
+returns-in_err-words c =
     let i = c.loop-i.i in
     let k = c.args.count in
     let inv = c.loop-i.invariant in
     record {
       words =
-          opened (λ ns. map number (take k ns)) (λ ns. length ns ≡ 4) _ _ _ _ _ (err_from_is_err_and _ c.from-residual.ensures.1)
-          (c.in-err-words.ensures.words.0 ∙ ap ill_formed inv.3)
+          opened (λ ns. map number (take k ns)) (λ ns. length ns ≡ 4) _ _ _ _ _ (err_from_is_err_and _ c.from_residual.ensures.1)
+          (c.in_err-words.ensures.words.0 ∙ ap ill_formed inv.3)
           (λ xs more fits p e.
-          c.in-err-words.ensures.words.1 (get_or xs i 0) (drop (i + 1) (figures (take k xs) ++ more))
+          c.in_err-words.ensures.words.1 (get_or xs i 0) (drop (i + 1) (figures (take k xs) ++ more))
           (fits_at xs k i c.loop-i-test.true (omega arith) fits)
           (figures_next xs c.loop-i.words k i _ more c.loop-i-test.true (omega arith) (omega (arith, inv.2)) (sym inv.0 ∙ e)));
-      line = c.in-err-words.ensures.line ∙ inv.3;
+      line = c.in_err-words.ensures.line ∙ inv.3;
     }
 
 pub loop-i-preserved : goal.loop-i-preserved
 loop-i-preserved c =
     let i = c.loop-i.i in
     let ns = c.loop-i.words in
-    let n = c.in-ok-words.field-0 in
+    let n = c.in_ok-words.field-0 in
     let inv = c.loop-i.invariant in
-    let h = c.in-ok-words.ensures in
+    let h = c.in_ok-words.ensures in
     let l : i < length ns = omega (arith, inv.2) in (
       figures_more _ ns i n _ _ l inv.0 h.words.1,
       fits_more ns i n l h.words.0 inv.1,

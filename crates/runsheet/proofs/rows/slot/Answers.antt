@@ -7,19 +7,19 @@ use Rattle.runsheet.specs.Sheets.{slot_fields}
 use Rattle.runsheet.proofs.Exits.{opened, after}
 use Rattle.runsheet.proofs.rows.slot.Goals as goal
 
-pub returns-in-err-node : goal.returns-in-err-node
-returns-in-err-node c =
-    let h = c.in-err-node.ensures in
+pub returns-in_err-node : goal.returns-in_err-node
+returns-in_err-node c =
+    let h = c.in_err-node.ensures in
     record {
-      words = opened slot_fields Any _ _ _ _ _ (err_from_is_err_and _ c.from-residual.ensures.1) h.words.0 (λ x vs fits p e. h.words.1 x.node (letter x.port ∷ vs) fits.0 e);
+      words = opened slot_fields Any _ _ _ _ _ (err_from_is_err_and _ c.from_residual.ensures.1) h.words.0 (λ x vs fits p e. h.words.1 x.node (letter x.port ∷ vs) fits.0 e);
       line = h.line;
     }
 
-pub returns-in-err-port : goal.returns-in-err-port
-returns-in-err-port c =
-    let n = c.in-ok-node.ensures in
-    let h = c.in-err-port.ensures in
+pub returns-in_err-port : goal.returns-in_err-port
+returns-in_err-port c =
+    let n = c.in_ok-node.ensures in
+    let h = c.in_err-port.ensures in
     record {
-      words = opened slot_fields Any _ _ _ _ _ (err_from_is_err_and _ c.from-residual-in-err-port.ensures.1) (h.words.0 ∙ ap ill_formed n.line) (λ x vs fits p e. h.words.1 x.port vs (after n.words.1 e));
+      words = opened slot_fields Any _ _ _ _ _ (err_from_is_err_and _ c.from_residual-in_err-port.ensures.1) (h.words.0 ∙ ap ill_formed n.line) (λ x vs fits p e. h.words.1 x.port vs (after n.words.1 e));
       line = h.line ∙ n.line;
     }

@@ -9,75 +9,75 @@ use Rattle.sheet.proofs.Stopping.{no_line, other_line}
 use Rattle.sheet.proofs.Asking.{shaped, fronted, tallied, wholly, finished, no_shape, no_run, miscounted, miswired, no_end}
 use Rattle.sheet.proofs.question.read.Goals as goal
 
-pub returns-in-err-next : goal.returns-in-err-next
-returns-in-err-next c =
+pub returns-in_err-next : goal.returns-in_err-next
+returns-in_err-next c =
     let bs = c.args.bytes.now in
-    let h = c.in-err-next.ensures in
-    err_at _ (Refused bs) _ _ (err_from_is_err_and _ c.from-residual.ensures.1)
+    let h = c.in_err-next.ensures in
+    err_at _ (Refused bs) _ _ (err_from_is_err_and _ c.from_residual.ensures.1)
     (no_shape bs c.new-lines.result.rest.now c.new-lines.result.read _ (omega arith) h.0 c.new-lines.ensures.rest c.new-lines.ensures.read (no_line shape_line Any _ h.1))
 
-pub returns-in-err-shape : goal.returns-in-err-shape
-returns-in-err-shape c =
+pub returns-in_err-shape : goal.returns-in_err-shape
+returns-in_err-shape c =
     let bs = c.args.bytes.now in
-    let n = c.in-ok-next.ensures in
-    let h = c.in-err-shape.ensures in
-    err_at _ (Refused bs) _ _ (err_from_is_err_and _ c.from-residual-in-err-shape.ensures.1)
+    let n = c.in_ok-next.ensures in
+    let h = c.in_err-shape.ensures in
+    err_at _ (Refused bs) _ _ (err_from_is_err_and _ c.from_residual-in_err-shape.ensures.1)
     (no_shape bs c.new-lines.result.rest.now c.new-lines.result.read _ (omega arith) (h.0 ∙ ap ill_formed n.1) c.new-lines.ensures.rest c.new-lines.ensures.read (other_line shape_line Any _ tidy_shape _ _ n.0 h.1))
 
-pub returns-in-err-next-2 : goal.returns-in-err-next-2
-returns-in-err-next-2 c =
+pub returns-in_err-next-2 : goal.returns-in_err-next-2
+returns-in_err-next-2 c =
     let bs = c.args.bytes.now in
-    let n = c.in-ok-next.ensures in
-    let x = c.in-ok-shape.ensures in
-    let a = shaped bs c.new-lines.result c.next.new.self c.in-ok-next.field-0 c.in-ok-shape.shape c.new-lines.ensures.rest c.new-lines.ensures.read n x.0 in
-    let h = c.in-err-next-2.ensures in
-    err_at _ (Refused bs) _ _ (err_from_is_err_and _ c.from-residual-in-err-next-2.ensures.1)
-    (no_run bs c.next.new.self.rest.now c.next.new.self.read _ (omega arith) h.0 c.in-ok-shape.shape x.1 a (no_line run_line Brief _ h.1))
+    let n = c.in_ok-next.ensures in
+    let x = c.in_ok-shape.ensures in
+    let a = shaped bs c.new-lines.result c.next.new.self c.in_ok-next.field-0 c.in_ok-shape.shape c.new-lines.ensures.rest c.new-lines.ensures.read n x.0 in
+    let h = c.in_err-next-2.ensures in
+    err_at _ (Refused bs) _ _ (err_from_is_err_and _ c.from_residual-in_err-next-2.ensures.1)
+    (no_run bs c.next.new.self.rest.now c.next.new.self.read _ (omega arith) h.0 c.in_ok-shape.shape x.1 a (no_line run_line Brief _ h.1))
 
-pub returns-in-err-run : goal.returns-in-err-run
-returns-in-err-run c =
+pub returns-in_err-run : goal.returns-in_err-run
+returns-in_err-run c =
     let bs = c.args.bytes.now in
-    let n = c.in-ok-next.ensures in
-    let x = c.in-ok-shape.ensures in
-    let a = shaped bs c.new-lines.result c.next.new.self c.in-ok-next.field-0 c.in-ok-shape.shape c.new-lines.ensures.rest c.new-lines.ensures.read n x.0 in
-    let m = c.in-ok-next-2.ensures in
-    let h = c.in-err-run.ensures in
-    err_at _ (Refused bs) _ _ (err_from_is_err_and _ c.from-residual-in-err-run.ensures.1)
-    (no_run bs c.next.new.self.rest.now c.next.new.self.read _ (omega arith) (h.0 ∙ ap ill_formed m.1) c.in-ok-shape.shape x.1 a (other_line run_line Brief _ tidy_run _ _ m.0 h.1))
+    let n = c.in_ok-next.ensures in
+    let x = c.in_ok-shape.ensures in
+    let a = shaped bs c.new-lines.result c.next.new.self c.in_ok-next.field-0 c.in_ok-shape.shape c.new-lines.ensures.rest c.new-lines.ensures.read n x.0 in
+    let m = c.in_ok-next-2.ensures in
+    let h = c.in_err-run.ensures in
+    err_at _ (Refused bs) _ _ (err_from_is_err_and _ c.from_residual-in_err-run.ensures.1)
+    (no_run bs c.next.new.self.rest.now c.next.new.self.read _ (omega arith) (h.0 ∙ ap ill_formed m.1) c.in_ok-shape.shape x.1 a (other_line run_line Brief _ tidy_run _ _ m.0 h.1))
 
-pub returns-in-err-count : goal.returns-in-err-count
-returns-in-err-count c =
+pub returns-in_err-count : goal.returns-in_err-count
+returns-in_err-count c =
     let bs = c.args.bytes.now in
-    let a = fronted bs c.new-lines.result c.next.new.self c.next-2.new.self c.in-ok-next.field-0 c.in-ok-next-2.field-0 c.in-ok-shape.shape c.in-ok-run.run' c.new-lines.ensures.rest c.new-lines.ensures.read c.in-ok-next.ensures c.in-ok-shape.ensures c.in-ok-next-2.ensures c.in-ok-run.ensures in
-    let h = c.in-err-count.ensures in
-    err_at _ (Refused bs) _ _ (err_from_is_err_and _ c.from-residual-in-err-count.ensures.1)
-    (miscounted bs c.next-2.new.self _ c.in-ok-run.run' (omega arith) c.in-ok-shape.shape a h)
+    let a = fronted bs c.new-lines.result c.next.new.self c.next-2.new.self c.in_ok-next.field-0 c.in_ok-next-2.field-0 c.in_ok-shape.shape c.in_ok-run.run' c.new-lines.ensures.rest c.new-lines.ensures.read c.in_ok-next.ensures c.in_ok-shape.ensures c.in_ok-next-2.ensures c.in_ok-run.ensures in
+    let h = c.in_err-count.ensures in
+    err_at _ (Refused bs) _ _ (err_from_is_err_and _ c.from_residual-in_err-count.ensures.1)
+    (miscounted bs c.next-2.new.self _ c.in_ok-run.run' (omega arith) c.in_ok-shape.shape a h)
 
-pub returns-in-err-cables : goal.returns-in-err-cables
-returns-in-err-cables c =
+pub returns-in_err-cables : goal.returns-in_err-cables
+returns-in_err-cables c =
     let bs = c.args.bytes.now in
-    let a = fronted bs c.new-lines.result c.next.new.self c.next-2.new.self c.in-ok-next.field-0 c.in-ok-next-2.field-0 c.in-ok-shape.shape c.in-ok-run.run' c.new-lines.ensures.rest c.new-lines.ensures.read c.in-ok-next.ensures c.in-ok-shape.ensures c.in-ok-next-2.ensures c.in-ok-run.ensures in
-    let b = tallied bs c.next-2.new.self c.count.new.lines c.in-ok-shape.shape c.in-ok-run.run' c.in-ok-count.count a c.in-ok-count.ensures in
-    let h = c.in-err-cables.ensures in
-    err_at _ (Refused bs) _ _ (err_from_is_err_and _ c.from-residual-in-err-cables.ensures.1)
-    (miswired bs c.count.new.lines _ c.in-ok-run.run' (omega arith) c.in-ok-shape.shape c.in-ok-count.count b h)
+    let a = fronted bs c.new-lines.result c.next.new.self c.next-2.new.self c.in_ok-next.field-0 c.in_ok-next-2.field-0 c.in_ok-shape.shape c.in_ok-run.run' c.new-lines.ensures.rest c.new-lines.ensures.read c.in_ok-next.ensures c.in_ok-shape.ensures c.in_ok-next-2.ensures c.in_ok-run.ensures in
+    let b = tallied bs c.next-2.new.self c.count.new.lines c.in_ok-shape.shape c.in_ok-run.run' c.in_ok-count.count a c.in_ok-count.ensures in
+    let h = c.in_err-cables.ensures in
+    err_at _ (Refused bs) _ _ (err_from_is_err_and _ c.from_residual-in_err-cables.ensures.1)
+    (miswired bs c.count.new.lines _ c.in_ok-run.run' (omega arith) c.in_ok-shape.shape c.in_ok-count.count b h)
 
-pub returns-in-err-end : goal.returns-in-err-end
-returns-in-err-end c =
+pub returns-in_err-end : goal.returns-in_err-end
+returns-in_err-end c =
     let bs = c.args.bytes.now in
-    let a = fronted bs c.new-lines.result c.next.new.self c.next-2.new.self c.in-ok-next.field-0 c.in-ok-next-2.field-0 c.in-ok-shape.shape c.in-ok-run.run' c.new-lines.ensures.rest c.new-lines.ensures.read c.in-ok-next.ensures c.in-ok-shape.ensures c.in-ok-next-2.ensures c.in-ok-run.ensures in
-    let b = tallied bs c.next-2.new.self c.count.new.lines c.in-ok-shape.shape c.in-ok-run.run' c.in-ok-count.count a c.in-ok-count.ensures in
-    let w = wholly bs c.count.new.lines c.cables.new.lines c.in-ok-shape.shape c.in-ok-run.run' c.in-ok-count.count c.in-ok-cables.cables b c.in-ok-cables.ensures in
-    let h = c.in-err-end.ensures in
-    err_at _ (Refused bs) _ _ (err_from_is_err_and _ c.from-residual-in-err-end.ensures.1)
-    (no_end bs c.cables.new.lines _ c.in-ok-run.run' (omega arith) c.in-ok-shape.shape (take c.in-ok-count.count c.in-ok-cables.cables) h.0 w h.1)
+    let a = fronted bs c.new-lines.result c.next.new.self c.next-2.new.self c.in_ok-next.field-0 c.in_ok-next-2.field-0 c.in_ok-shape.shape c.in_ok-run.run' c.new-lines.ensures.rest c.new-lines.ensures.read c.in_ok-next.ensures c.in_ok-shape.ensures c.in_ok-next-2.ensures c.in_ok-run.ensures in
+    let b = tallied bs c.next-2.new.self c.count.new.lines c.in_ok-shape.shape c.in_ok-run.run' c.in_ok-count.count a c.in_ok-count.ensures in
+    let w = wholly bs c.count.new.lines c.cables.new.lines c.in_ok-shape.shape c.in_ok-run.run' c.in_ok-count.count c.in_ok-cables.cables b c.in_ok-cables.ensures in
+    let h = c.in_err-end.ensures in
+    err_at _ (Refused bs) _ _ (err_from_is_err_and _ c.from_residual-in_err-end.ensures.1)
+    (no_end bs c.cables.new.lines _ c.in_ok-run.run' (omega arith) c.in_ok-shape.shape (take c.in_ok-count.count c.in_ok-cables.cables) h.0 w h.1)
 
 pub returns : goal.returns
 returns c =
     let bs = c.args.bytes.now in
-    let a = fronted bs c.new-lines.result c.next.new.self c.next-2.new.self c.in-ok-next.field-0 c.in-ok-next-2.field-0 c.in-ok-shape.shape c.in-ok-run.run' c.new-lines.ensures.rest c.new-lines.ensures.read c.in-ok-next.ensures c.in-ok-shape.ensures c.in-ok-next-2.ensures c.in-ok-run.ensures in
-    let b = tallied bs c.next-2.new.self c.count.new.lines c.in-ok-shape.shape c.in-ok-run.run' c.in-ok-count.count a c.in-ok-count.ensures in
-    let w = wholly bs c.count.new.lines c.cables.new.lines c.in-ok-shape.shape c.in-ok-run.run' c.in-ok-count.count c.in-ok-cables.cables b c.in-ok-cables.ensures in
+    let a = fronted bs c.new-lines.result c.next.new.self c.next-2.new.self c.in_ok-next.field-0 c.in_ok-next-2.field-0 c.in_ok-shape.shape c.in_ok-run.run' c.new-lines.ensures.rest c.new-lines.ensures.read c.in_ok-next.ensures c.in_ok-shape.ensures c.in_ok-next-2.ensures c.in_ok-run.ensures in
+    let b = tallied bs c.next-2.new.self c.count.new.lines c.in_ok-shape.shape c.in_ok-run.run' c.in_ok-count.count a c.in_ok-count.ensures in
+    let w = wholly bs c.count.new.lines c.cables.new.lines c.in_ok-shape.shape c.in_ok-run.run' c.in_ok-count.count c.in_ok-cables.cables b c.in_ok-cables.ensures in
     let r = c.new.ensures in
-    let q = finished bs c.cables.new.lines _ (asked c.new.result) w (λ i. record { shape = r.lines.0 i; run = r.lines.1 i; cables = take (r.cables.1 i) (r.cables.0 i) }) c.in-ok-end.ensures in
+    let q = finished bs c.cables.new.lines _ (asked c.new.result) w (λ i. record { shape = r.lines.0 i; run = r.lines.1 i; cables = take (r.cables.1 i) (r.cables.0 i) }) c.in_ok-end.ensures in
     (omega arith, q.0, q.1)

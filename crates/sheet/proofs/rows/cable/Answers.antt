@@ -6,15 +6,15 @@ use Rattle.sheet.specs.Questions.{slot_fields, cable_line}
 use Rattle.sheet.proofs.Exits.{passed, rest_of, after}
 use Rattle.sheet.proofs.rows.cable.Goals as goal
 
-pub returns-in-err-one : goal.returns-in-err-one
-returns-in-err-one c =
-    let h = c.in-err-one.ensures in
-    passed cable_line Any _ _ _ _ (err_from_is_err_and _ c.from-residual.ensures.1) h.words.0
+pub returns-in_err-one : goal.returns-in_err-one
+returns-in_err-one c =
+    let h = c.in_err-one.ensures in
+    passed cable_line Any _ _ _ _ (err_from_is_err_and _ c.from_residual.ensures.1) h.words.0
     (λ x fits p e. h.words.1 x.one (map shown (slot_fields x.other)) (fits.0, (tt, tt)) e)
 
-pub returns-in-err-other : goal.returns-in-err-other
-returns-in-err-other c =
-    let n = c.in-ok-one.ensures in
-    let h = c.in-err-other.ensures in
-    passed cable_line Any _ _ _ _ (err_from_is_err_and _ c.from-residual-in-err-other.ensures.1) (h.words.0 ∙ ap ill_formed n.line)
+pub returns-in_err-other : goal.returns-in_err-other
+returns-in_err-other c =
+    let n = c.in_ok-one.ensures in
+    let h = c.in_err-other.ensures in
+    passed cable_line Any _ _ _ _ (err_from_is_err_and _ c.from_residual-in_err-other.ensures.1) (h.words.0 ∙ ap ill_formed n.line)
     (λ x fits p e. h.words.1 x.other [] (fits.1.1.0, (tt, tt)) (rest_of (after n.words.0 e)))

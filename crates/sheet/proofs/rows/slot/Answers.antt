@@ -6,19 +6,19 @@ use Rattle.sheet.specs.Questions.{slot_fields}
 use Rattle.sheet.proofs.Exits.{opened, after}
 use Rattle.sheet.proofs.rows.slot.Goals as goal
 
-pub returns-in-err-node : goal.returns-in-err-node
-returns-in-err-node c =
-    let h = c.in-err-node.ensures in
+pub returns-in_err-node : goal.returns-in_err-node
+returns-in_err-node c =
+    let h = c.in_err-node.ensures in
     record {
-      words = opened slot_fields _ _ _ _ _ (err_from_is_err_and _ c.from-residual.ensures.1) h.words.0 (λ x vs fits e. h.words.1 x.node (letter x.port ∷ vs) fits.0 e);
+      words = opened slot_fields _ _ _ _ _ (err_from_is_err_and _ c.from_residual.ensures.1) h.words.0 (λ x vs fits e. h.words.1 x.node (letter x.port ∷ vs) fits.0 e);
       line = h.line;
     }
 
-pub returns-in-err-port : goal.returns-in-err-port
-returns-in-err-port c =
-    let n = c.in-ok-node.ensures in
-    let h = c.in-err-port.ensures in
+pub returns-in_err-port : goal.returns-in_err-port
+returns-in_err-port c =
+    let n = c.in_ok-node.ensures in
+    let h = c.in_err-port.ensures in
     record {
-      words = opened slot_fields _ _ _ _ _ (err_from_is_err_and _ c.from-residual-in-err-port.ensures.1) (h.words.0 ∙ ap ill_formed n.line) (λ x vs fits e. h.words.1 x.port vs (after n.words.1 e));
+      words = opened slot_fields _ _ _ _ _ (err_from_is_err_and _ c.from_residual-in_err-port.ensures.1) (h.words.0 ∙ ap ill_formed n.line) (λ x vs fits e. h.words.1 x.port vs (after n.words.1 e));
       line = h.line ∙ n.line;
     }

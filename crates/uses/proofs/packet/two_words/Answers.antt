@@ -9,8 +9,8 @@ pub returns-in-Ok : goal.returns-in-Ok
 unfolding taken left entering ready handing arriving done
 returns-in-Ok c =
     let x =
-    brings c.in-ok-mesh.mesh c.new-network.result c.set_up.new.self c.offer.new.self c.cycle.new.self c.cycle-2.new.self c.cycle-3.new.self c.collect.new.self
-    c.in-ok-mesh.ensures c.new-network.ensures.parts.0 (c.set_up.ensures.begins (ap shown c.in-ok-set-up.was)) c.set_up.ensures.parts.0 c.new-line.ensures.queue
+    brings c.in_ok-mesh.mesh c.new-network.result c.set_up.new.self c.offer.new.self c.cycle.new.self c.cycle-2.new.self c.cycle-3.new.self c.collect.new.self
+    c.in_ok-mesh.ensures c.new-network.ensures.parts.0 (c.set_up.ensures.begins (ap shown c.in_ok-set_up.was)) c.set_up.ensures.parts.0 c.new-line.ensures.queue
     (record { promised = c.offer.ensures.promised; layout = c.offer.ensures.parts.0 })
     (record { promised = c.cycle.ensures.promised; layout = c.cycle.ensures.parts.0 })
     (record { promised = c.cycle-2.ensures.promised; layout = c.cycle-2.ensures.parts.0 })
@@ -22,8 +22,8 @@ pub returns-in-Err : goal.returns-in-Err
 unfolding taken left entering ready handing arriving done
 returns-in-Err c =
     let x =
-    brings c.in-ok-mesh.mesh c.new-network.result c.set_up.new.self c.offer.new.self c.cycle.new.self c.cycle-2.new.self c.cycle-3.new.self c.collect.new.self
-    c.in-ok-mesh.ensures c.new-network.ensures.parts.0 (c.set_up.ensures.begins (ap shown c.in-ok-set-up.was)) c.set_up.ensures.parts.0 c.new-line.ensures.queue
+    brings c.in_ok-mesh.mesh c.new-network.result c.set_up.new.self c.offer.new.self c.cycle.new.self c.cycle-2.new.self c.cycle-3.new.self c.collect.new.self
+    c.in_ok-mesh.ensures c.new-network.ensures.parts.0 (c.set_up.ensures.begins (ap shown c.in_ok-set_up.was)) c.set_up.ensures.parts.0 c.new-line.ensures.queue
     (record { promised = c.offer.ensures.promised; layout = c.offer.ensures.parts.0 })
     (record { promised = c.cycle.ensures.promised; layout = c.cycle.ensures.parts.0 })
     (record { promised = c.cycle-2.ensures.promised; layout = c.cycle-2.ensures.parts.0 })

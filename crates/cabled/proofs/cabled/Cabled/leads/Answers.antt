@@ -8,8 +8,8 @@ bounds-self-next c =
     let x = c.args.self.now in
     omega (arith, ap (λ (s : Slot). s.node) c.far-next.ensures, (x.paired (record { node = c.args.from; port = c.args.port }) c.requires.0).0)
 
-pub overflow-add-result : goal.overflow-add-result
-overflow-add-result c =
+pub overflow_add-result : goal.overflow_add-result
+overflow_add-result c =
     let x = c.args.self.now in
     let n : c.far-next.result.node < x.nodes =
     omega (arith, ap (λ (s : Slot). s.node) c.far-next.ensures, (x.paired (record { node = c.args.from; port = c.args.port }) c.requires.0).0) in

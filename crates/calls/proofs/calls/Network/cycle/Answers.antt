@@ -7,13 +7,13 @@ use Rattle.calls.proofs.Promising.{not_refused, promised, refusing}
 use Rattle.calls.proofs.Rounds.{round_none, round_more, no_cycle, no_room, cycles_on}
 use Rattle.calls.proofs.calls.Network.cycle.Goals as goal
 
-pub returns-then-self-ge-MOST-CYCLES : goal.returns-then-self-ge-MOST-CYCLES
-returns-then-self-ge-MOST-CYCLES g c =
+pub returns-then-self-ge-MOST_CYCLES : goal.returns-then-self-ge-MOST_CYCLES
+returns-then-self-ge-MOST_CYCLES g c =
     let s = c.args.self.now in
     let law = g.met.L.Layout.lawful s.layout in
     let F : Fabric = record { plan = g.L.Layout.plan s.layout; turn = g.S.Switch.turn s.switch } in
     let q = queue_of c.args.line.now in
-    let b = refusing F law (g.met.S.Switch.lawful s.switch) s.inner _ _ (no_cycle F s.inner law q c.if-self-ge-MOST-CYCLES.true) in
+    let b = refusing F law (g.met.S.Switch.lawful s.switch) s.inner _ _ (no_cycle F s.inner law q c.if-self-ge-MOST_CYCLES.true) in
     record { promised = b; parts = (refl, refl); lender = refl }
 
 pub returns-then-free-nodes : goal.returns-then-free-nodes
@@ -22,7 +22,7 @@ returns-then-free-nodes g c =
     let law = g.met.L.Layout.lawful s.layout in
     let F : Fabric = record { plan = g.L.Layout.plan s.layout; turn = g.S.Switch.turn s.switch } in
     let q = queue_of c.args.line.now in
-    let b = refusing F law (g.met.S.Switch.lawful s.switch) s.inner _ _ (no_room F s.inner law q c.if-self-ge-MOST-CYCLES.false (omega arith)) in
+    let b = refusing F law (g.met.S.Switch.lawful s.switch) s.inner _ _ (no_room F s.inner law q c.if-self-ge-MOST_CYCLES.false (omega arith)) in
     record { promised = b; parts = (refl, refl); lender = refl }
 
 pub loop-node-init : goal.loop-node-init
@@ -56,7 +56,7 @@ returns g c =
     let i = c.loop-node.invariant in
     let q = queue_of c.args.line.now in
     let b = promised F law (g.met.S.Switch.lawful s.switch) s.inner c.advance.new.self _ _
-    (cycles_on F s.inner law q c.if-self-ge-MOST-CYCLES.false (omega arith) c.args.line.now.sound.0 c.loop-node.self.inner c.advance.new.self c.golden_golden.result
+    (cycles_on F s.inner law q c.if-self-ge-MOST_CYCLES.false (omega arith) c.args.line.now.sound.0 c.loop-node.self.inner c.advance.new.self c.golden_golden.result
     c.loop-node.arriving (queue_of c.loop-node.line) c.loop-node.off c.loop-node.node
     (c.golden_golden.ensures ∙ ap (λ (x : ℕ). golden_ticket (x * s.inner.settings.tickets) s.inner.settings.epoch s.inner.cycles) c.nodes-nodes.ensures) (omega arith) i.0 c.advance.ensures) not_refused in
     record { promised = b; parts = (i.1, i.2); lender = i.3 }

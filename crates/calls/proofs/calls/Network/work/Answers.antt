@@ -10,11 +10,11 @@ returns g c =
     let F : Fabric = record { plan = g.L.Layout.plan s.layout; turn = g.S.Switch.turn s.switch } in
     record {
       works =
-          node_works F (g.met.L.Layout.lawful s.layout) s.inner c.take-off-off.new.self c.enter-places.new.self c.draw-draws.new.self c.args.node c.args.golden c.requires
-          c.args.arriving.now c.spread.new.slots (queue_of c.args.line.now) (queue_of c.take-off-off.new.line) (queue_of c.enter-places.new.line) c.take-off-off.result.1
-          c.take-off-off.result.0 c.enter-places.result c.route-leaving.result c.wishes-wishes.result c.draw-draws.result
-          c.take-off-off.ensures.takes c.enter-places.ensures.enters c.draw-draws.ensures
+          node_works F (g.met.L.Layout.lawful s.layout) s.inner c.take_off-off.new.self c.enter-places.new.self c.draw-draws.new.self c.args.node c.args.golden c.requires
+          c.args.arriving.now c.spread.new.slots (queue_of c.args.line.now) (queue_of c.take_off-off.new.line) (queue_of c.enter-places.new.line) c.take_off-off.result.1
+          c.take_off-off.result.0 c.enter-places.result c.route-leaving.result c.wishes-wishes.result c.draw-draws.result
+          c.take_off-off.ensures.takes c.enter-places.ensures.enters c.draw-draws.ensures
           c.wishes-wishes.ensures c.route-leaving.ensures c.spread.ensures;
       parts = (refl, refl);
-      lender = c.enter-places.ensures.lender ∙ c.take-off-off.ensures.lender;
+      lender = c.enter-places.ensures.lender ∙ c.take_off-off.ensures.lender;
     }

@@ -3,13 +3,13 @@ use Rattle.calls.specs.Records.{no_waits, line_of}
 use Rattle.calls.proofs.Recording.{head_none, head_some, head_empty, let_go}
 use Rattle.calls.proofs.tables.Tables.let_in.Goals as goal
 
-pub returns-in-default : goal.returns-in-default
-returns-in-default c =
+pub returns-in_default : goal.returns-in_default
+returns-in_default c =
     let xs = line_of (get_or c.args.self.now.waits c.args.node no_waits) in
     record {
       keeps = record { settings = refl; cycles = refl; register = refl; slots = refl };
       none = λ e. (refl, refl, refl);
-      some = λ t ts e h. absurd (head_none xs c.in-default.ensures t ts e);
+      some = λ t ts e h. absurd (head_none xs c.in_default.ensures t ts e);
     }
 
 pub returns-then-t-ge-TICKETS : goal.returns-then-t-ge-TICKETS

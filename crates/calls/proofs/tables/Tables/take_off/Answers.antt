@@ -33,13 +33,13 @@ returns-in-Some c =
     let g = c.args.golden in
     record {
       takes = record {
-        keeps = c.take-in.ensures.keeps;
+        keeps = c.take_in.ensures.keeps;
         few = omega arith;
         took = λ F s l law led h gold b room.
             took_some F i s l n g law led h gold b c.in-Some.port c.in-Some.flit
             (sym (same_best F i s l n g law led h gold b) ∙ ap (λ xs. best g (λ p. due n (at xs p))) (sym c.places-places.ensures) ∙ sym c.in-Some.ensures)
-            c.take-in.new.self (queue_of c.args.line.now) (queue_of c.tell.new.line) c.with.result c.take-in.new.self.cycles c.take-in.ensures
-            (c.with.ensures ∙ ap (λ xs. set xs (place_of c.in-Some.port) None) c.places-places.ensures) c.take-in.ensures.keeps.cycles (c.tell.ensures.put room);
+            c.take_in.new.self (queue_of c.args.line.now) (queue_of c.tell.new.line) c.with.result c.take_in.new.self.cycles c.take_in.ensures
+            (c.with.ensures ∙ ap (λ xs. set xs (place_of c.in-Some.port) None) c.places-places.ensures) c.take_in.ensures.keeps.cycles (c.tell.ensures.put room);
       };
       lender = c.tell.ensures.lender;
     }

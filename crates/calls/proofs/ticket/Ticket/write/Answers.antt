@@ -12,7 +12,7 @@ loop-k-preserved c =
     let k = c.loop-k.k in
     let n = c.args.self.now.size in
     elim c.if-k-self.branch [
-      | then-k-self w ↦ w.memory-is ∙ ap (λ x. set c.loop-k.memory k x) (w.unwrap-or.ensures ∙ value_or (get_or xs k None)) ∙ ap (λ m. set m k (value (get_or xs k None))) c.loop-k.invariant ∙ values_more xs ms k n w.if-k-self.true (omega arith)
+      | then-k-self w ↦ w.memory-is ∙ ap (λ x. set c.loop-k.memory k x) (w.unwrap_or.ensures ∙ value_or (get_or xs k None)) ∙ ap (λ m. set m k (value (get_or xs k None))) c.loop-k.invariant ∙ values_more xs ms k n w.if-k-self.true (omega arith)
       | else-k-self w ↦
           let a : min k n ≡ min (k + 1) n = omega arith in
           w.memory-is ∙ c.loop-k.invariant ∙ ap (λ j. values xs j ++ drop j ms) a

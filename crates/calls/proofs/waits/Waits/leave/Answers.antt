@@ -6,6 +6,6 @@ pub returns-then-self-gt0 : goal.returns-then-self-gt0
 returns-then-self-gt0 c =
     λ h. (
       omega arith,
-      ap (take (c.args.self.now.held - 1)) c.rotate-left.ensures.after
+      ap (take (c.args.self.now.held - 1)) c.rotate_left.ensures.after
           ∙ front_leaves c.args.self.now.tickets c.args.self.now.held (omega arith) (omega arith),
     )

@@ -2,5 +2,5 @@ use Rattle.std.proofs.Common.{arith}
 use Rattle.fabric.specs.Grid.{sides, unfair}
 use Rattle.fabric.proofs.mesh.Mesh.new.Goals as goal
 
-pub returns-in-default : goal.returns-in-default
-returns-in-default c = unfair c.args.width c.args.height (λ f. omega (arith, sides c.args.width c.args.height f.0 f.1, c.in-default.ensures))
+pub returns-in_default : goal.returns-in_default
+returns-in_default c = unfair c.args.width c.args.height (λ f. omega (arith, sides c.args.width c.args.height f.0 f.1, c.in_default.ensures))

@@ -13,8 +13,8 @@ bounds-self-ticket g c =
     let x = c.requires.going in
     in_table F x.settings (g.met.L.Layout.lawful n.layout) x.stands c.args.ticket c.requires.numbers.1
 
-pub returns-in-default : goal.returns-in-default
-returns-in-default g c =
+pub returns-in_default : goal.returns-in_default
+returns-in_default g c =
     let n = c.args.self.now.network in
     let F : Fabric = record { plan = g.L.Layout.plan n.layout; turn = g.S.Switch.turn n.switch } in
     let law = g.met.L.Layout.lawful n.layout in
@@ -25,7 +25,7 @@ returns-in-default g c =
             record {
               state = s;
               more = [];
-              collects = uncollected F P law st c.args.ticket c.requires.numbers.1 c.args.cycle c.in-default.is;
+              collects = uncollected F P law st c.args.ticket c.requires.numbers.1 c.args.cycle c.in_default.is;
               counted = refl;
               stands = subst (λ (l : List (List Field)). Stands F P M c.args.self.now c.args.writer.now s l es o) (sym (append-nil ls)) st;
             },
@@ -41,15 +41,15 @@ bounds-self-ticket-in-Ok g c =
     let x = c.requires.going in
     in_table F x.settings (g.met.L.Layout.lawful n.layout) x.stands c.args.ticket c.requires.numbers.1
 
-pub slice-bounds-words-end : goal.slice-bounds-words-end
-slice-bounds-words-end g c =
+pub slice_bounds-words-end : goal.slice_bounds-words-end
+slice_bounds-words-end g c =
     let n = c.args.self.now.network in
     let F : Fabric = record { plan = g.L.Layout.plan n.layout; turn = g.S.Switch.turn n.switch } in
     let x = c.requires.going in
     in_memory F x.settings (g.met.L.Layout.lawful n.layout) x.stands c.args.ticket c.requires.numbers.1 _ _ _ _ c.in-Ok.ensures.promised
 
-pub slice-bounds-done-end : goal.slice-bounds-done-end
-slice-bounds-done-end g c =
+pub slice_bounds-done-end : goal.slice_bounds-done-end
+slice_bounds-done-end g c =
     let n = c.args.self.now.network in
     let F : Fabric = record { plan = g.L.Layout.plan n.layout; turn = g.S.Switch.turn n.switch } in
     let x = c.requires.going in

@@ -32,7 +32,7 @@ loop-ticket-preserved g c =
     let F : Fabric = record { plan = g.L.Layout.plan n.layout; turn = g.S.Switch.turn n.switch } in
     let l = c.loop-ticket in
     let i = l.invariant in
-    let e = c.in-ok-collect.ensures in
+    let e = c.in_ok-collect.ensures in
     let t =
     subst₂ (λ (a : g.row.L.Denot) (b : g.row.S.Denot). Tried (record { plan = g.L.Layout.plan a; turn = g.S.Switch.turn b }) c.args.cycle l.ticket l.self l.writer c.collect.new.self c.collect.new.writer)
     i.1.layout i.1.switch e.tried.1 in (
@@ -41,8 +41,8 @@ loop-ticket-preserved g c =
       e.lender ∙ i.2,
     )
 
-pub returns-in-err-collect : goal.returns-in-err-collect
-returns-in-err-collect g c = let e = c.in-err-collect.ensures.tried.0 in absurd (let z : ◌≡◌ {A = ℕ} 0 1 = cc in let n : ⊥ = omega arith in n)
+pub returns-in_err-collect : goal.returns-in_err-collect
+returns-in_err-collect g c = let e = c.in_err-collect.ensures.tried.0 in absurd (let z : ◌≡◌ {A = ℕ} 0 1 = cc in let n : ⊥ = omega arith in n)
 
 pub returns : goal.returns
 returns g c =

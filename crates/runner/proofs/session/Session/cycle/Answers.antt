@@ -3,12 +3,12 @@ use Rattle.network.specs.Cycle.{Fabric}
 use Rattle.runner.proofs.Sessions.{not_declined, carried_out, tellable, told_of}
 use Rattle.runner.proofs.session.Session.cycle.Goals as goal
 
-pub returns-in-err-cycle : goal.returns-in-err-cycle
-returns-in-err-cycle g c =
+pub returns-in_err-cycle : goal.returns-in_err-cycle
+returns-in_err-cycle g c =
     let n = c.args.self.now.network in
     let F : Fabric = record { plan = g.L.Layout.plan n.layout; turn = g.S.Switch.turn n.switch } in
     let x = c.requires.going in
-    absurd (not_declined F x.settings (g.met.L.Layout.lawful n.layout) x.stands _ refl c.new-line.ensures.queue c.requires.early c.in-err-cycle.ensures.promised)
+    absurd (not_declined F x.settings (g.met.L.Layout.lawful n.layout) x.stands _ refl c.new-line.ensures.queue c.requires.early c.in_err-cycle.ensures.promised)
 
 pub tell-requires : goal.tell-requires
 tell-requires g c =
@@ -16,7 +16,7 @@ tell-requires g c =
     let F : Fabric = record { plan = g.L.Layout.plan n.layout; turn = g.S.Switch.turn n.switch } in
     let law = g.met.L.Layout.lawful n.layout in
     let x = c.requires.going in
-    let y = carried_out F x.settings law x.stands _ refl c.new-line.ensures.queue c.requires.early c.in-ok-cycle.ensures.promised in
+    let y = carried_out F x.settings law x.stands _ refl c.new-line.ensures.queue c.requires.early c.in_ok-cycle.ensures.promised in
     tellable F x.settings law x.stands _ refl c.new-line.ensures.queue c.requires.early y
 
 pub returns : goal.returns
@@ -25,7 +25,7 @@ returns g c =
     let F : Fabric = record { plan = g.L.Layout.plan n.layout; turn = g.S.Switch.turn n.switch } in
     let law = g.met.L.Layout.lawful n.layout in
     let new = c.new-line.ensures.queue in
-    let e = c.in-ok-cycle.ensures in
+    let e = c.in_ok-cycle.ensures in
     record {
       cycled = (
         c.tell.ensures.told.0,

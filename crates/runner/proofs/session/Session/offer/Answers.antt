@@ -6,8 +6,8 @@ use Rattle.fabric.specs.Refusals.{shown}
 use Rattle.runner.proofs.Sessions.{place_below, took, refuses, number_small}
 use Rattle.runner.proofs.session.Session.offer.Goals as goal
 
-pub offset-bounds-self-node : goal.offset-bounds-self-node
-offset-bounds-self-node g c =
+pub offset_bounds-self-node : goal.offset_bounds-self-node
+offset_bounds-self-node g c =
     let n = c.args.self.now.network in
     let F : Fabric = record { plan = g.L.Layout.plan n.layout; turn = g.S.Switch.turn n.switch } in
     let x = c.requires.0 in

@@ -52,9 +52,9 @@ loop-cycle-preserved g c =
     let F : Fabric = record { plan = g.L.Layout.plan n.layout; turn = g.S.Switch.turn n.switch } in
     let l = c.loop-cycle in
     let i = l.invariant in
-    let e = c.in-ok-next.ensures in
+    let e = c.in_ok-next.ensures in
     let coming = to_come l.next (holds l.planned) in
-    let later = to_come c.in-ok-next.next (holds c.turn.new.planned) in
+    let later = to_come c.in_ok-next.next (holds c.turn.new.planned) in
     let turned =
     subst₂ (λ (a : g.row.L.Denot) (b : g.row.S.Denot). Turned (record { plan = g.L.Layout.plan a; turn = g.S.Switch.turn b }) l.cycle coming later l.self l.writer c.turn.new.self c.turn.new.writer)
     i.2.layout i.2.switch e.turned.0 in (

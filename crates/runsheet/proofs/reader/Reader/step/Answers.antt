@@ -8,11 +8,11 @@ use Rattle.runsheet.proofs.Tidy.{tidy_entry}
 use Rattle.runsheet.proofs.Sections.{unlike}
 use Rattle.runsheet.proofs.reader.Reader.step.Goals as goal
 
-pub overflow-add-self : goal.overflow-add-self
-overflow-add-self c = let h = short _ c.requires in search (rules, h)
+pub overflow_add-self : goal.overflow_add-self
+overflow_add-self c = let h = short _ c.requires in search (rules, h)
 
-pub overflow-add-self-2 : goal.overflow-add-self-2
-overflow-add-self-2 c = let h = short _ c.requires in search (rules, h)
+pub overflow_add-self-2 : goal.overflow_add-self-2
+overflow_add-self-2 c = let h = short _ c.requires in search (rules, h)
 
 pub entry-requires : goal.entry-requires
 entry-requires c = short _ c.requires
@@ -22,27 +22,27 @@ returns-then-end-rest c =
     let rest = c.args.rest.now in
     inl (c.ill_formed.ensures, no_line entry_line (Suits (draft c.args.self.now)) rest (unended rest c.find-end.result c.find-end.ensures.before (omega (arith, c.if-end-rest.true))))
 
-pub returns-in-err-entry : goal.returns-in-err-entry
-returns-in-err-entry c =
+pub returns-in_err-entry : goal.returns-in_err-entry
+returns-in_err-entry c =
     let rest = c.args.rest.now in
     let end = c.find-end.result in
     let d = draft c.args.self.now in
     let l : end < length rest = omega (arith, c.find-end.ensures.within, c.if-end-rest.false) in
     let n = lined rest end _ l c.find-end.ensures.before (c.find-end.ensures.found l) refl in
-    let b = c.in-err-entry.ensures in
-    err_at _ (Refuses d (c.args.self.now.line + 1) rest) _ _ (err_from_is_err_and _ c.from-residual.ensures.1) (inl (b.0, other_line entry_line (Suits d) rest tidy_entry _ _ n (unlike d _ b.1)))
+    let b = c.in_err-entry.ensures in
+    err_at _ (Refuses d (c.args.self.now.line + 1) rest) _ _ (err_from_is_err_and _ c.from_residual.ensures.1) (inl (b.0, other_line entry_line (Suits d) rest tidy_entry _ _ n (unlike d _ b.1)))
 
-pub returns-in-err-check-limit : goal.returns-in-err-check-limit
-returns-in-err-check-limit c =
+pub returns-in_err-check_limit : goal.returns-in_err-check_limit
+returns-in_err-check_limit c =
     let rest = c.args.rest.now in
     let end = c.find-end.result in
     let d = draft c.args.self.now in
     let l : end < length rest = omega (arith, c.find-end.ensures.within, c.if-end-rest.false) in
     let n = lined rest end _ l c.find-end.ensures.before (c.find-end.ensures.found l) refl in
-    let x = c.in-ok-entry.entry in
-    let h = c.in-ok-entry.ensures in
-    let b = c.in-err-check-limit.ensures in
-    err_at _ (Refuses d (c.args.self.now.line + 1) rest) _ _ (err_from_is_err_and _ c.from-residual-in-err-check-limit.ensures.1) (inr (b.0, (x, _, h.1, h.2, b.1, is_line (entry_line x) rest _ _ n h.0)))
+    let x = c.in_ok-entry.entry in
+    let h = c.in_ok-entry.ensures in
+    let b = c.in_err-check_limit.ensures in
+    err_at _ (Refuses d (c.args.self.now.line + 1) rest) _ _ (err_from_is_err_and _ c.from_residual-in_err-check_limit.ensures.1) (inr (b.0, (x, _, h.1, h.2, b.1, is_line (entry_line x) rest _ _ n h.0)))
 
 pub returns : goal.returns
 returns c =
@@ -50,5 +50,5 @@ returns c =
     let end = c.find-end.result in
     let l : end < length rest = omega (arith, c.find-end.ensures.within, c.if-end-rest.false) in
     let n = lined rest end _ l c.find-end.ensures.before (c.find-end.ensures.found l) refl in
-    let x = c.in-ok-entry.entry in
-    (x, c.put.ensures, is_line (entry_line x) rest _ _ n c.in-ok-entry.ensures.0)
+    let x = c.in_ok-entry.entry in
+    (x, c.put.ensures, is_line (entry_line x) rest _ _ n c.in_ok-entry.ensures.0)

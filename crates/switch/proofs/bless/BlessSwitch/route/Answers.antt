@@ -12,7 +12,7 @@ pub loop-preserved : goal.loop-preserved
 loop-preserved c =
     round c.args.golden c.args.places c.args.wishes c.loop.counter c.loop.out c.loop.waiting c.loop.free c.loop.invariant c.loop-test.true
     c.index-slot.result c.index-port.result
-    (c.index-slot.ensures ∙ ap place_of c.best-of.ensures) (c.index-port.ensures ∙ ap place_of c.choose.ensures)
+    (c.index-slot.ensures ∙ ap place_of c.best_of.ensures) (c.index-port.ensures ∙ ap place_of c.choose.ensures)
 
 pub returns : goal.returns
 returns c = record {

@@ -6,8 +6,8 @@ use Rattle.writer.proofs.writer.Writer.byte.Goals as goal
 pub bounds-self-self : goal.bounds-self-self
 bounds-self-self c = at_room c.args.self.now c.requires
 
-pub invariant-of-self : goal.invariant-of-self
-invariant-of-self c = (omega (arith, at_room c.args.self.now c.requires, length-set c.args.self.now.memory.now c.args.self.now.len c.args.b), tt)
+pub invariant_of-self : goal.invariant_of-self
+invariant_of-self c = (omega (arith, at_room c.args.self.now c.requires, length-set c.args.self.now.memory.now c.args.self.now.len c.args.b), tt)
 
 pub returns : goal.returns
 returns c =

@@ -15,7 +15,7 @@ returns-then-room-digits c =
             c.room.ensures,
             c.digits.ensures.exact,
             c.digits-2.ensures.exact,
-            c.mean-width.ensures.exact,
+            c.mean_width.ensures.exact,
             length_written (word (codes "end")) (number c.args.entered ∷ number c.args.off ∷ word (mean_word c.args.mean) ∷ []),
           ));
       lender = refl;

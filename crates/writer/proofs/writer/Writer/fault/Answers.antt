@@ -8,13 +8,13 @@ use Rattle.writer.proofs.writer.Writer.fault.Goals as goal
 pub returns-then-room-layer : goal.returns-then-room-layer
 returns-then-room-layer c =
     let long = length_fault (told c.args.fault) in
-    let layer = ap length c.layer-word-layer.ensures.exact in
+    let layer = ap length c.layer_word-layer.ensures.exact in
     let digits = ap (λ n. length (decimal n)) (c.from-number.ensures ∙ c.number.ensures) in
     record { line = short (omega (arith, c.if-room-layer.true, c.room.ensures)); lender = refl; few = omega arith }
 
 pub returns : goal.returns
 returns c =
-    let layer = c.layer-word-layer.ensures.exact in
+    let layer = c.layer_word-layer.ensures.exact in
     let number = c.from-number.ensures ∙ c.number.ensures in
     let word_told = subst (λ w. Puts c.bytes.new.self (32 ∷ w) c.word.new.self) layer c.word.ensures in
     let number_told = subst (λ n. Puts c.word.new.self (32 ∷ decimal n) c.next.new.self) number c.next.ensures in
@@ -26,5 +26,5 @@ returns c =
     record {
       line = added (omega (arith, p.room)) p.appends;
       lender = p.lender;
-      few = omega (arith, c.digits.ensures.exact, c.digits-2.ensures.exact, c.layer-word-layer.ensures.few);
+      few = omega (arith, c.digits.ensures.exact, c.digits-2.ensures.exact, c.layer_word-layer.ensures.few);
     }

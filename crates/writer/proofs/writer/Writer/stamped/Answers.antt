@@ -5,14 +5,14 @@ use Rattle.writer.specs.Listings.LineOut.{added, short}
 use Rattle.writer.proofs.Written.{lined, length_written, length_joined, too_few, enough}
 use Rattle.writer.proofs.writer.Writer.stamped.Goals as goal
 
-pub returns-then-is-none : goal.returns-then-is-none
-returns-then-is-none c =
+pub returns-then-is_none : goal.returns-then-is_none
+returns-then-is_none c =
     record {
       line = short
           (omega (
             arith,
             c.room.ensures,
-            too_few c.after-stamped.result c.if-is-none.ensures c.after-stamped.ensures,
+            too_few c.after_stamped.result c.if-is_none.ensures c.after_stamped.ensures,
             length_written (number c.args.cycle) (word c.args.kind.now ∷ number c.args.first ∷ map number c.args.more.now),
           ));
       lender = refl;
@@ -23,7 +23,7 @@ byte-requires c =
     omega (
       arith,
       c.room.ensures,
-      enough c.after-stamped.result c.if-is-none.ensures c.after-stamped.ensures,
+      enough c.after_stamped.result c.if-is_none.ensures c.after_stamped.ensures,
       c.number.ensures.room,
       c.word.ensures.room,
       c.next.ensures.room,
