@@ -23,8 +23,8 @@ pub struct Limits {
 
 impl Limits {
     pub fn of<L: Layout>(layout: &L, settings: Settings) -> Result<Limits, Refusal>
-        ensures exact { shown result ≡ granting (λ _. limits_of (plan layout.now) settings) (set_up_verdict (plan layout.now) settings) }
-        ensures shortest { IfOk result (λ l. Shortest (plan layout.now) settings l.epoch) }
+        ensures exact { shown result ≡ granting (λ _. limits_of (L.plan layout.now) settings) (set_up_verdict (L.plan layout.now) settings) }
+        ensures shortest { IfOk result (λ l. Shortest (L.plan layout.now) settings l.epoch) }
     {
         settings.judge(layout)?;
         let nodes = layout.nodes();

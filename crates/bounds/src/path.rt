@@ -20,7 +20,7 @@ pub fn path<L: Layout>(
     to: usize,
     heap: Global,
 ) -> Result<Vec<Hop>, AllocError>
-    ensures { IfOk result (λ v. Way (plan layout.now) from to v.items) }
+    ensures { IfOk result (λ v. Way (L.plan layout.now) from to v.items) }
 {
     let mut hops = Vec::new(heap);
     let mut node = from;
@@ -33,7 +33,7 @@ pub fn path<L: Layout>(
 
 // Of the nodes farthest from this one, the first.
 fn farthest_from<L: Layout>(layout: &L, from: usize) -> usize
-    ensures { FarthestFrom (plan layout.now) from result }
+    ensures { FarthestFrom (L.plan layout.now) from result }
 {
     let mut farthest = 0;
     for to in 0..layout.nodes() {
@@ -46,7 +46,7 @@ fn farthest_from<L: Layout>(layout: &L, from: usize) -> usize
 
 // Of the pairs of nodes farthest apart, the first.
 pub fn farthest<L: Layout>(layout: &L) -> (usize, usize)
-    ensures { Farthest (plan layout.now) result.0 result.1 }
+    ensures { Farthest (L.plan layout.now) result.0 result.1 }
 {
     let mut pair = (0, 0);
     for from in 0..layout.nodes() {

@@ -29,7 +29,7 @@ pub struct Settings {
 impl Settings {
     // Whether a network of this layout may be set up so.
     pub fn judge<L: Layout>(&self, layout: &L) -> Result<(), Refusal>
-        ensures { shown result ≡ set_up_verdict (plan layout.now) self.now }
+        ensures { shown result ≡ set_up_verdict (L.plan layout.now) self.now }
     {
         let Settings {
             tickets,

@@ -42,7 +42,7 @@ pub struct Network<L, S> {
 
 impl<L: Layout, S: Switch> Network<L, S> {
     pub fn new(layout: L, switch: S) -> Network<L, S>
-        ensures begins { Begins (record { plan = plan layout; turn = turn switch }) (record { tickets = 1; words = 1; epoch = 4096; seed = 1 }) result.inner }
+        ensures begins { Begins (record { plan = L.plan layout; turn = S.turn switch }) (record { tickets = 1; words = 1; epoch = 4096; seed = 1 }) result.inner }
         ensures parts { (result.layout ≡ layout) × (result.switch ≡ switch) }
     {
         let inner = Tables::fresh(FIRST);
@@ -55,8 +55,8 @@ impl<L: Layout, S: Switch> Network<L, S> {
 
     // No cycle is carried out then, all slots are empty and all tickets free.
     pub fn set_up(&mut self, settings: Settings) -> Result<(), Refusal>
-        ensures exact { shown result ≡ set_up_verdict (plan self.old.layout) settings }
-        ensures begins { shown result ≡ granted tt → Begins (record { plan = plan self.old.layout; turn = turn self.old.switch }) settings self.new.inner }
+        ensures exact { shown result ≡ set_up_verdict (L.plan self.old.layout) settings }
+        ensures begins { shown result ≡ granted tt → Begins (record { plan = L.plan self.old.layout; turn = S.turn self.old.switch }) settings self.new.inner }
         ensures unchanged { declined (shown result) ≡ true → self.new.inner ≡ self.old.inner }
         ensures parts { (self.new.layout ≡ self.old.layout) × (self.new.switch ≡ self.old.switch) }
     {
@@ -67,8 +67,8 @@ impl<L: Layout, S: Switch> Network<L, S> {
 
     // Within so many cycles of being injected a flit is ejected, whatever traffic there is.
     pub fn limit(&self) -> usize
-        ensures exact { result ≡ latest (plan self.now.layout) self.now.inner.settings }
-        ensures promised { OffWithin (record { plan = plan self.now.layout; turn = turn self.now.switch }) self.now.inner result }
+        ensures exact { result ≡ latest (L.plan self.now.layout) self.now.inner.settings }
+        ensures promised { OffWithin (record { plan = L.plan self.now.layout; turn = S.turn self.now.switch }) self.now.inner result }
     {
         let Settings { tickets, epoch, .. } = self.inner.settings;
         (self.layout.nodes() * tickets + 1) * epoch
@@ -82,7 +82,7 @@ impl<L: Layout, S: Switch> Network<L, S> {
         destination: usize,
         words: &[u32],
     ) -> Result<(), Refusal>
-        ensures promised { Promised (record { plan = plan self.old.layout; turn = turn self.old.switch }) self.old.inner self.new.inner (offers node own destination words.now) (offering (shown result)) }
+        ensures promised { Promised (record { plan = L.plan self.old.layout; turn = S.turn self.old.switch }) self.old.inner self.new.inner (offers node own destination words.now) (offering (shown result)) }
         ensures parts { (self.new.layout ≡ self.old.layout) × (self.new.switch ≡ self.old.switch) }
     {
         let nodes = self.layout.nodes();
@@ -111,7 +111,7 @@ impl<L: Layout, S: Switch> Network<L, S> {
         own: usize,
         memory: &mut [u32],
     ) -> Result<usize, Refusal>
-        ensures promised { Promised (record { plan = plan self.old.layout; turn = turn self.old.switch }) self.old.inner self.new.inner (collects receiver sender own memory.old) (collecting (shown result) memory.new) }
+        ensures promised { Promised (record { plan = L.plan self.old.layout; turn = S.turn self.old.switch }) self.old.inner self.new.inner (collects receiver sender own memory.old) (collecting (shown result) memory.new) }
         ensures parts { (self.new.layout ≡ self.old.layout) × (self.new.switch ≡ self.old.switch) }
     {
         let nodes = self.layout.nodes();
@@ -134,7 +134,7 @@ impl<L: Layout, S: Switch> Network<L, S> {
 
     // The flit behind a port of a node, if one is there.
     pub fn look(&self, node: usize, port: usize) -> Result<Option<Flit>, Refusal>
-        ensures promised { Promised (record { plan = plan self.now.layout; turn = turn self.now.switch }) self.now.inner self.now.inner (looks node port) (looking (shown result)) }
+        ensures promised { Promised (record { plan = L.plan self.now.layout; turn = S.turn self.now.switch }) self.now.inner self.now.inner (looks node port) (looking (shown result)) }
     {
         if node >= self.layout.nodes() || port >= PORTS {
             return Err(Refusal::Missing);
@@ -150,8 +150,8 @@ impl<L: Layout, S: Switch> Network<L, S> {
         line: &mut Line<Event>,
         arriving: &mut [Option<Flit>; SLOTS],
     ) -> usize
-        requires { node < (plan self.old.layout).nodes }
-        ensures works { NodeWorks (record { plan = plan self.old.layout; turn = turn self.old.switch }) self.old.inner self.new.inner node golden arriving.old arriving.new (queue_of line.old) (queue_of line.new) result }
+        requires { node < (L.plan self.old.layout).nodes }
+        ensures works { NodeWorks (record { plan = L.plan self.old.layout; turn = S.turn self.old.switch }) self.old.inner self.new.inner node golden arriving.old arriving.new (queue_of line.old) (queue_of line.new) result }
         ensures parts { (self.new.layout ≡ self.old.layout) × (self.new.switch ≡ self.old.switch) }
         ensures lender { line.new.memory.ghost_name ≡ line.old.memory.ghost_name }
     {
@@ -166,7 +166,7 @@ impl<L: Layout, S: Switch> Network<L, S> {
 
     // Carries out one cycle. Answers how many flits were ejected; the line tells of each flit ejected or injected.
     pub fn cycle(&mut self, line: &mut Line<Event>) -> Result<usize, Refusal>
-        ensures promised { Promised (record { plan = plan self.old.layout; turn = turn self.old.switch }) self.old.inner self.new.inner (cycles (queue_of line.old)) (cycling (shown result) (queue_of line.new)) }
+        ensures promised { Promised (record { plan = L.plan self.old.layout; turn = S.turn self.old.switch }) self.old.inner self.new.inner (cycles (queue_of line.old)) (cycling (shown result) (queue_of line.new)) }
         ensures parts { (self.new.layout ≡ self.old.layout) × (self.new.switch ≡ self.old.switch) }
         ensures lender { line.new.memory.ghost_name ≡ line.old.memory.ghost_name }
     {

@@ -100,7 +100,7 @@ pub(crate) fn with(
 }
 
 fn wish<L: Layout>(layout: &L, node: usize, place: Option<Flit>) -> Option<Port>
-    ensures { result ≡ wished (plan layout.now) node place }
+    ensures { result ≡ wished (L.plan layout.now) node place }
 {
     match place {
         Some(flit) => layout.wish(node, usize::from(flit.destination)),
@@ -113,7 +113,7 @@ pub(crate) fn wishes<L: Layout>(
     node: usize,
     places: [Option<Flit>; 4],
 ) -> [Option<Port>; 4]
-    ensures { result ≡ in_slot_order (λ p. wished (plan layout.now) node (at places p)) }
+    ensures { result ≡ in_slot_order (λ p. wished (L.plan layout.now) node (at places p)) }
 {
     [
         wish(layout, node, places[0]),
@@ -125,8 +125,8 @@ pub(crate) fn wishes<L: Layout>(
 
 // The place in the table of slots that a node's port leads to.
 fn far<L: Layout>(layout: &L, node: usize, k: usize) -> usize
-    requires { node < (plan layout.now).nodes }
-    ensures is { result ≡ far_place (plan layout.now) node (port_of k) }
+    requires { node < (L.plan layout.now).nodes }
+    ensures is { result ≡ far_place (L.plan layout.now) node (port_of k) }
     ensures below { result < 256 }
 {
     let to = layout.far_end(node, port(k));
@@ -140,8 +140,8 @@ pub(crate) fn spread<L: Layout>(
     leaving: [Option<Flit>; 4],
     slots: &mut [Option<Flit>; SLOTS],
 )
-    requires { node < (plan layout.now).nodes }
-    ensures { Spread (plan layout.now) node leaving slots.old slots.new }
+    requires { node < (L.plan layout.now).nodes }
+    ensures { Spread (L.plan layout.now) node leaving slots.old slots.new }
 {
     for (k, flit) in leaving.iter().enumerate() {
         let to = far(layout, node, k);

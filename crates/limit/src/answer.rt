@@ -72,8 +72,8 @@ fn lay_cables(nodes: u32, cables: &[Cable]) -> Result<Cabled, Fault>
 }
 
 fn bound<L: Layout>(layout: &L, run: Run) -> Result<Limits, Fault>
-    ensures exact { reported (λ l. l) result ≡ limited run (plan layout.now) }
-    ensures kept { IfOk result (λ l. OffWithin (plan layout.now) (settings_of run) l.latest) }
+    ensures exact { reported (λ l. l) result ≡ limited run (L.plan layout.now) }
+    ensures kept { IfOk result (λ l. OffWithin (L.plan layout.now) (settings_of run) l.latest) }
 {
     let settings = Settings {
         tickets: run.tickets as usize,

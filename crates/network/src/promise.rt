@@ -12,7 +12,7 @@ use fabric::refusal::Refusal;
 
 // Once so many cycles are carried out, a flit that was injected in this cycle is ejected, whatever traffic there is.
 pub fn off_by<L: Layout>(layout: &L, settings: Settings, entered: u32) -> Result<usize, Refusal>
-    ensures exact { shown result ≡ granting (λ _. off_by (plan layout.now) settings entered) (set_up_verdict (plan layout.now) settings) }
+    ensures exact { shown result ≡ granting (λ _. off_by (L.plan layout.now) settings entered) (set_up_verdict (L.plan layout.now) settings) }
     ensures kept { AlwaysKept }
 {
     match Limits::of(layout, settings) {

@@ -58,7 +58,7 @@ fn start<L: Layout + Drop, S: Switch + Drop>(
     writer: &mut Writer,
 ) -> Result<(), Refusal>
     requires { (Formed 128 256 (said sheet.now)) × (Blank writer.old) }
-    ensures ran { Ran (record { plan = plan layout; turn = turn switch }) (said sheet.now) writer.old writer.new (shown result) }
+    ensures ran { Ran (record { plan = L.plan layout; turn = S.turn switch }) (said sheet.now) writer.old writer.new (shown result) }
     ensures lender { writer.new.memory.ghost_name ≡ writer.old.memory.ghost_name }
 {
     let nodes = layout.nodes();
@@ -89,7 +89,7 @@ fn run<L: Layout + Drop, S: Switch + Drop>(
     writer: &mut Writer,
 ) -> Result<(), Fault>
     requires { (Formed 128 256 (said sheet.now)) × (Blank writer.old) }
-    ensures ended { Ended (record { plan = plan layout; turn = turn switch }) (said sheet.now) writer.old writer.new result }
+    ensures ended { Ended (record { plan = L.plan layout; turn = S.turn switch }) (said sheet.now) writer.old writer.new result }
     ensures lender { writer.new.memory.ghost_name ≡ writer.old.memory.ghost_name }
 {
     match start(layout, switch, sheet, writer) {
@@ -101,7 +101,7 @@ fn run<L: Layout + Drop, S: Switch + Drop>(
 // The sheet's run on this layout, with the sheet's kind of switch.
 fn run_on<L: Layout + Drop>(layout: L, sheet: &Sheet, writer: &mut Writer) -> Result<(), Fault>
     requires { (Formed 128 256 (said sheet.now)) × (Blank writer.old) }
-    ensures ended { Ended (network_of (plan layout) (said sheet.now)) (said sheet.now) writer.old writer.new result }
+    ensures ended { Ended (network_of (L.plan layout) (said sheet.now)) (said sheet.now) writer.old writer.new result }
     ensures lender { writer.new.memory.ghost_name ≡ writer.old.memory.ghost_name }
 {
     match sheet.kind {

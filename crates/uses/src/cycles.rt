@@ -17,7 +17,7 @@ pub fn run_on<L: Layout, S: Switch>(
     line: &mut Line<Event>,
     cycles: u32,
 )
-    ensures ran { (run : List Call) (s : State) → Follows (record { plan = plan network.old.layout; turn = turn network.old.switch }) network.old.inner run s → RanOn (record { plan = plan network.old.layout; turn = turn network.old.switch }) network.old.inner network.new.inner cycles run }
+    ensures ran { (run : List Call) (s : State) → Follows (record { plan = L.plan network.old.layout; turn = S.turn network.old.switch }) network.old.inner run s → RanOn (record { plan = L.plan network.old.layout; turn = S.turn network.old.switch }) network.old.inner network.new.inner cycles run }
     ensures parts { (network.new.layout ≡ network.old.layout) × (network.new.switch ≡ network.old.switch) }
 {
     for _ in 0..cycles {

@@ -19,9 +19,9 @@ impl<L: Layout, S: Switch> Session<L, S> {
         ticket: usize,
         writer: &mut Writer,
     ) -> Result<(), Refusal>
-        requires going { Going (record { plan = plan self.old.network.layout; turn = turn self.old.network.switch }) self.old writer.old }
+        requires going { Going (record { plan = L.plan self.old.network.layout; turn = S.turn self.old.network.switch }) self.old writer.old }
         requires numbers { (cycle < 65536) × (ticket < self.old.nodes * self.old.tickets) }
-        ensures tried { (result ≡ Ok tt) × (Tried (record { plan = plan self.old.network.layout; turn = turn self.old.network.switch }) cycle ticket self.old writer.old self.new writer.new) }
+        ensures tried { (result ≡ Ok tt) × (Tried (record { plan = L.plan self.old.network.layout; turn = S.turn self.old.network.switch }) cycle ticket self.old writer.old self.new writer.new) }
         ensures parts { (self.new.network.layout ≡ self.old.network.layout) × (self.new.network.switch ≡ self.old.network.switch) }
         ensures lender { writer.new.memory.ghost_name ≡ writer.old.memory.ghost_name }
     {
@@ -44,9 +44,9 @@ impl<L: Layout, S: Switch> Session<L, S> {
 
     // In rising order.
     pub(crate) fn collect_all(&mut self, cycle: u32, writer: &mut Writer) -> Result<(), Refusal>
-        requires going { Going (record { plan = plan self.old.network.layout; turn = turn self.old.network.switch }) self.old writer.old }
+        requires going { Going (record { plan = L.plan self.old.network.layout; turn = S.turn self.old.network.switch }) self.old writer.old }
         requires numbers { cycle < 65536 }
-        ensures collected { (result ≡ Ok tt) × (Collected (record { plan = plan self.old.network.layout; turn = turn self.old.network.switch }) cycle (self.old.nodes * self.old.tickets) self.old writer.old self.new writer.new) }
+        ensures collected { (result ≡ Ok tt) × (Collected (record { plan = L.plan self.old.network.layout; turn = S.turn self.old.network.switch }) cycle (self.old.nodes * self.old.tickets) self.old writer.old self.new writer.new) }
         ensures parts { (self.new.network.layout ≡ self.old.network.layout) × (self.new.network.switch ≡ self.old.network.switch) }
         ensures lender { writer.new.memory.ghost_name ≡ writer.old.memory.ghost_name }
     {

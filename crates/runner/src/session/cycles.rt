@@ -25,8 +25,8 @@ const NO_EVENT: Event = Event {
 impl<L: Layout, S: Switch> Session<L, S> {
     // Each event has its line.
     pub(crate) fn cycle(&mut self, writer: &mut Writer) -> Result<(), Refusal>
-        requires { Early (record { plan = plan self.old.network.layout; turn = turn self.old.network.switch }) self.old writer.old }
-        ensures cycled { (result ≡ Ok tt) × (Cycled (record { plan = plan self.old.network.layout; turn = turn self.old.network.switch }) self.old writer.old self.new writer.new) }
+        requires { Early (record { plan = L.plan self.old.network.layout; turn = S.turn self.old.network.switch }) self.old writer.old }
+        ensures cycled { (result ≡ Ok tt) × (Cycled (record { plan = L.plan self.old.network.layout; turn = S.turn self.old.network.switch }) self.old writer.old self.new writer.new) }
         ensures parts { (self.new.network.layout ≡ self.old.network.layout) × (self.new.network.switch ≡ self.old.network.switch) }
         ensures lender { writer.new.memory.ghost_name ≡ writer.old.memory.ghost_name }
     {

@@ -14,8 +14,8 @@ use writer::Writer;
 impl<L: Layout, S: Switch> Session<L, S> {
     // Of an accepted packet its destination is kept, until it is collected there. A refused one has its line.
     pub(crate) fn offer(&mut self, packet: Packet, writer: &mut Writer) -> Result<(), Refusal>
-        requires { (Going (record { plan = plan self.old.network.layout; turn = turn self.old.network.switch }) self.old writer.old) × (Sendable packet) }
-        ensures offered { (result ≡ Ok tt) × (Offered (record { plan = plan self.old.network.layout; turn = turn self.old.network.switch }) packet self.old writer.old self.new writer.new) }
+        requires { (Going (record { plan = L.plan self.old.network.layout; turn = S.turn self.old.network.switch }) self.old writer.old) × (Sendable packet) }
+        ensures offered { (result ≡ Ok tt) × (Offered (record { plan = L.plan self.old.network.layout; turn = S.turn self.old.network.switch }) packet self.old writer.old self.new writer.new) }
         ensures parts { (self.new.network.layout ≡ self.old.network.layout) × (self.new.network.switch ≡ self.old.network.switch) }
         ensures lender { writer.new.memory.ghost_name ≡ writer.old.memory.ghost_name }
     {
@@ -46,8 +46,8 @@ impl<L: Layout, S: Switch> Session<L, S> {
         planned: &mut Line<Packet>,
         writer: &mut Writer,
     ) -> Result<Option<Packet>, Refusal>
-        requires { Ready (record { plan = plan self.old.network.layout; turn = turn self.old.network.switch }) cycle (to_come next (holds planned.old)) self.old writer.old }
-        ensures offered { MatchResult result (λ n. Due (record { plan = plan self.old.network.layout; turn = turn self.old.network.switch }) cycle (to_come next (holds planned.old)) (to_come n (holds planned.new)) self.old writer.old self.new writer.new × Left (cycle + 1) (to_come n (holds planned.new))) (λ _. ⊥) }
+        requires { Ready (record { plan = L.plan self.old.network.layout; turn = S.turn self.old.network.switch }) cycle (to_come next (holds planned.old)) self.old writer.old }
+        ensures offered { MatchResult result (λ n. Due (record { plan = L.plan self.old.network.layout; turn = S.turn self.old.network.switch }) cycle (to_come next (holds planned.old)) (to_come n (holds planned.new)) self.old writer.old self.new writer.new × Left (cycle + 1) (to_come n (holds planned.new))) (λ _. ⊥) }
         ensures parts { (self.new.network.layout ≡ self.old.network.layout) × (self.new.network.switch ≡ self.old.network.switch) }
         ensures lender { (writer.new.memory.ghost_name ≡ writer.old.memory.ghost_name) × (planned.new.memory.ghost_name ≡ planned.old.memory.ghost_name) }
     {
