@@ -36,16 +36,13 @@ invariant_of-self c =
     let ds = c.measure-reach.result.distances in
     let w = c.in_ok-ends.ensures in
     let spans = c.measure-reach.ensures in
-    let met = spans.met in (
-      (omega arith, omega arith, omega (arith, met.2.2, (nearest k (omega arith) cs ts ds w c.in_default.ensures spans.exact met.2.0 met.0 met.2.1 met.1).0)),
-      (
-        paired k (omega arith) cs ts w,
-        (
-          (λ m n l. spans.within n l.1 m l.0),
-          (nearing k (omega arith) cs ts ds w c.in_default.ensures spans.exact, tt),
-        ),
-      ),
-    )
+    let met = spans.met in
+    record {
+      few = (omega arith, omega arith, omega (arith, met.2.2, (nearest k (omega arith) cs ts ds w c.in_default.ensures spans.exact met.2.0 met.0 met.2.1 met.1).0));
+      paired = paired k (omega arith) cs ts w;
+      within = λ m n l. spans.within n l.1 m l.0;
+      nearing = nearing k (omega arith) cs ts ds w c.in_default.ensures spans.exact;
+    }
 
 pub returns : goal.returns
 returns c =

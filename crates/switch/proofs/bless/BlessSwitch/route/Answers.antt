@@ -16,6 +16,6 @@ loop-preserved c =
 
 pub returns : goal.returns
 returns c = record {
-  0 = ends c.args.golden c.args.places c.args.wishes c.loop.counter c.loop.out c.loop.waiting c.loop.free c.loop.invariant c.loop-test.false;
+  value = ends c.args.golden c.args.places c.args.wishes c.loop.counter c.loop.out c.loop.waiting c.loop.free c.loop.invariant c.loop-test.false;
   ranked = bless_lawful (handed c.args.places c.args.wishes c.args.golden c.args.draws);
 }

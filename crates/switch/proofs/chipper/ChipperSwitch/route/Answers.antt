@@ -10,10 +10,10 @@ pub returns : goal.returns
 returns c =
     let h = handed c.args.places c.args.wishes c.args.golden c.args.draws in
     record {
-      0 = wired h c.pass.result c.pass-2.result c.pass-3.result c.pass-4.result
-          (c.pass.ensures.0 ∙ ap₂ (passed Entry (draw h 0)) c.new-n.ensures c.new-e.ensures)
-          (c.pass-2.ensures.0 ∙ ap₂ (passed Entry (draw h 1)) c.new-s.ensures c.new-w.ensures)
-          c.pass-3.ensures.0 c.pass-4.ensures.0;
+      value = wired h c.pass.result c.pass-2.result c.pass-3.result c.pass-4.result
+          (c.pass.ensures.value ∙ ap₂ (passed Entry (draw h 0)) c.new-n.ensures c.new-e.ensures)
+          (c.pass-2.ensures.value ∙ ap₂ (passed Entry (draw h 1)) c.new-s.ensures c.new-w.ensures)
+          c.pass-3.ensures.value c.pass-4.ensures.value;
       blocks = record {
         out_1 = c.pass.result;
         out_2 = c.pass-2.result;
