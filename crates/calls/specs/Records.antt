@@ -71,7 +71,7 @@ pub record Accepts (i j : Tables) (n t d : ℕ) (ws : List ℕ) : Type 0 where
   pub packed : Packed its d ws
   pub tickets : j.tickets ≡ slice_set i.tickets t its
   pub line : Waits
-  pub joined : (get_or i.waits n no_waits).held < 8 → (line.held ≡ (get_or i.waits n no_waits).held + 1) × (line_of line ≡ line_of (slice_index_or i.waits n no_waits) ++ t ∷ [])
+  pub joined : (slice_index_or i.waits n no_waits).held < 8 → (line.held ≡ (slice_index_or i.waits n no_waits).held + 1) × (line_of line ≡ line_of (slice_index_or i.waits n no_waits) ++ t ∷ [])
   pub waits : j.waits ≡ slice_set i.waits n line
 
 -- a ticket's packet is collected
@@ -81,11 +81,11 @@ pub record Frees (i j : Tables) (t : ℕ) : Type 0 where
   pub its : Ticket
   pub tickets : j.tickets ≡ slice_set i.tickets t its
   pub free : its.busy ≡ false
-  pub destination : its.destination ≡ (get_or i.tickets t no_ticket).destination
-  pub size : its.size ≡ (get_or i.tickets t no_ticket).size
-  pub sent : its.sent ≡ (get_or i.tickets t no_ticket).sent
-  pub words : its.words ≡ (get_or i.tickets t no_ticket).words
-  pub received : its.received ≡ (get_or i.tickets t no_ticket).received
+  pub destination : its.destination ≡ (slice_index_or i.tickets t no_ticket).destination
+  pub size : its.size ≡ (slice_index_or i.tickets t no_ticket).size
+  pub sent : its.sent ≡ (slice_index_or i.tickets t no_ticket).sent
+  pub words : its.words ≡ (slice_index_or i.tickets t no_ticket).words
+  pub received : its.received ≡ (slice_index_or i.tickets t no_ticket).received
 
 -- a word is entered in its place
 pub record Receives (r q : Ticket) (k w : ℕ) : Type 0 where
@@ -125,8 +125,8 @@ pub record LetsGo (i j : Tables) (n t : ℕ) (o : Option Flit) : Type 0 where
   pub stays : (its.sent ≢ its.size) → j.waits ≡ i.waits
   pub line : its.sent ≡ its.size → Waits
   pub waits : (e : its.sent ≡ its.size) → j.waits ≡ slice_set i.waits n (line e)
-  pub leaves : (e : its.sent ≡ its.size) → (get_or i.waits n no_waits).held ≤ 8 →
-      ((line e).held ≡ (get_or i.waits n no_waits).held - 1) × (line_of (line e) ≡ drop 1 (line_of (slice_index_or i.waits n no_waits)))
+  pub leaves : (e : its.sent ≡ its.size) → (slice_index_or i.waits n no_waits).held ≤ 8 →
+      ((line e).held ≡ (slice_index_or i.waits n no_waits).held - 1) × (line_of (line e) ≡ drop 1 (line_of (slice_index_or i.waits n no_waits)))
 
 pub record LetsIn (i j : Tables) (n : ℕ) (o : Option Flit) : Type 0 where
   pub keeps : Keeps i j
