@@ -1,5 +1,5 @@
 -- What a collection does.
-use Rattle.std.proofs.Common.{◌≡◌, ℕ, ◌+◌, ◌<◌, ◌≤◌, Bool, true, false, cond, not, ◌&&◌, ◌||◌, eqb, leb, ◌⊎◌, List, [], ◌∷◌, ◌++◌, length, get_or, None, Option, sym, refl, ap, ◌∙◌, subst, inl, inr, arith}
+use Rattle.std.proofs.Common.{◌≡◌, ℕ, ◌<◌, ◌≤◌, Bool, true, false, cond, not, ◌&&◌, ◌||◌, eqb, leb, ◌⊎◌, List, [], ◌∷◌, ◌++◌, length, get_or, None, Option, sym, refl, ap, ◌∙◌, subst, inl, inr, arith}
 use lib.Arith.{digits_lt}
 use Rattle.std.proofs.lemmas.Bool.{le-leb, lt-leb, le-ltb, lt-ltb, eq-eqb, ne_eqb, or_left, or_right, or_from, cond-true, cond-false, not_from_true, not_from_false}
 use Rattle.fabric.specs.Layouts.{Lawful}
@@ -7,7 +7,7 @@ use Rattle.fabric.specs.Verdicts.{Verdict}
 use Rattle.fabric.specs.Verdicts.Verdict.{granted, refused}
 use Rattle.bounds.specs.declared.settings.Settings.{Settings}
 use Rattle.bounds.specs.SetUp.{all_tickets}
-use Rattle.network.specs.Log.{Log, packet, size, aim, free, sent, received, has, value, filled, complete, gathered}
+use Rattle.network.specs.Log.{Log, packet, size, aim, free, received, has, value, filled, complete, gathered}
 use Rattle.network.specs.Log.Happening.{collected}
 use Rattle.network.specs.Cycle.{Fabric, State}
 use Rattle.network.specs.Runs.{ticket, missing, collect_verdict, with_log, over}

@@ -13,7 +13,7 @@ use Rattle.bounds.specs.declared.settings.Settings.{Settings}
 use Rattle.bounds.specs.SetUp.{all_tickets}
 use Rattle.network.specs.declared.event.Event.{Event}
 use Rattle.network.specs.declared.event.Kind.TheVariants.{In}
-use Rattle.network.specs.Log.{Log, packet, size, word, aim, sent, received, waiting}
+use Rattle.network.specs.Log.{Log, packet, size, word, aim, sent, waiting}
 use Rattle.network.specs.Log.Happening.{entered}
 use Rattle.network.specs.Cycle.{Fabric, State, entered_at, in_slot_order}
 use Rattle.network.specs.Runs.{put_all, told}

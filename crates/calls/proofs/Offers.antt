@@ -8,7 +8,7 @@ use Rattle.fabric.specs.Verdicts.{Verdict}
 use Rattle.fabric.specs.Verdicts.Verdict.{granted, refused}
 use Rattle.bounds.specs.declared.settings.Settings.{Settings}
 use Rattle.bounds.specs.SetUp.{all_tickets}
-use Rattle.network.specs.Log.{Log, Packet, packet, size, word, aim, free, sent, received, waiting}
+use Rattle.network.specs.Log.{Log, Packet, packet, size, word, aim, free, waiting}
 use Rattle.network.specs.Log.Happening.{offered}
 use Rattle.network.specs.Cycle.{Fabric, State}
 use Rattle.network.specs.Runs.{ticket, missing, offer_verdict, with_log}

@@ -13,7 +13,7 @@ use Rattle.bounds.specs.declared.settings.Settings.{Settings}
 use Rattle.bounds.specs.SetUp.{all_tickets}
 use Rattle.network.specs.declared.event.Event.{Event}
 use Rattle.network.specs.declared.event.Kind.TheVariants.{Out}
-use Rattle.network.specs.Log.{Log, size, sent, received}
+use Rattle.network.specs.Log.{Log, received}
 use Rattle.network.specs.Log.Happening.{off}
 use Rattle.network.specs.Cycle.{Fabric, State, golden_in, off_at, in_slot_order}
 use Rattle.network.specs.Runs.{put_all, told, count_off}

@@ -12,7 +12,7 @@ use Rattle.bounds.specs.declared.settings.Settings.{Settings}
 use Rattle.bounds.specs.SetUp.{all_tickets}
 use Rattle.clock.specs.Draws.{register, shifted, draw_bits}
 use Rattle.network.specs.declared.event.Event.{Event}
-use Rattle.network.specs.Log.{Log, sent}
+use Rattle.network.specs.Log.{Log}
 use Rattle.network.specs.Log.Happening.{offered, entered, off, collected}
 use Rattle.network.specs.Cycle.{Fabric, State, golden_in, wish_of, off_at, entered_at, in_slot_order}
 use Rattle.network.specs.Runs.{put_all, told, count_off}
