@@ -1,6 +1,6 @@
 -- The exit of a `?` in the reading of a line, and the fields that follow those read.
 use Rattle.std.proofs.Common.{◌≡◌, ℕ, List, ◌∷◌, ◌++◌, map, get_or, drop, Err, Result, sym, ap, ◌∙◌, subst, MatchResult}
-use Rattle.std.specs.List.{AllByRecursion as All}
+use Rattle.std.specs.List.{AllByRecursion}
 use Rattle.runsheet.specs.Texts.{Field, Fits, shown}
 use Rattle.runsheet.specs.Fields.{Unlike, Reads, Begins}
 use Rattle.runsheet.specs.Faults.{told, ill_formed}
@@ -19,7 +19,7 @@ pub passed : {A : Type 0} (line : A → List Field) (P : A → Type 0) (ws : Lis
 passed line P ws k r f p at none = err_at _ _ r f p (at, none)
 
 pub opened : {A : Type 0} (part : A → List Field) (P : A → Type 0) (ws more : List (List ℕ)) (k : ℕ) (r : Result A Fault) (f : Fault) →
-    Passes r f → told f ≡ ill_formed k → ((x : A) (vs : List (List ℕ)) → All Fits (part x) → P x → ws ≡ map shown (part x) ++ vs → ⊥) → Begins part P ws more k r
+    Passes r f → told f ≡ ill_formed k → ((x : A) (vs : List (List ℕ)) → AllByRecursion Fits (part x) → P x → ws ≡ map shown (part x) ++ vs → ⊥) → Begins part P ws more k r
 opened part P ws more k r f p at none = err_at _ _ r f p (at, none)
 
 -- what follows the first of a list

@@ -1,6 +1,6 @@
 -- Whatever was read, some sheet begins so: what was read, filled up to the counts.
 use Rattle.std.proofs.Common.{◌≡◌, ℕ, zero, suc, ◌-◌, ◌^◌, ◌<◌, ◌≤◌, List, [], ◌∷◌, ◌++◌, map, length, drop, replicate, sym, refl, ap, ◌∙◌, subst, append_assoc, arith}
-use Rattle.std.specs.List.{AllByRecursion as All}
+use Rattle.std.specs.List.{AllByRecursion}
 use Rattle.std.proofs.lemmas.List.{length-append, length-replicate, map-append}
 use Rattle.std.proofs.ByRecursion.{All-append, All-map}
 use Rattle.fabric.specs.declared.parts.Port.TheVariants.{N}
@@ -30,7 +30,7 @@ spare_plans d m = replicate (m - length d.packets) (spare_plan d.last)
 abbrev pub fill : Draft → ℕ → ℕ → Said
 fill d n m = record { shape = d.shape; kind = d.kind; run = d.run; cables = d.cables ++ spare_wires d n; packets = d.packets ++ spare_plans d m }
 
-all_replicate : {X : Type 0} (P : X → Type 0) (n : ℕ) (x : X) → P x → All P (replicate n x)
+all_replicate : {X : Type 0} (P : X → Type 0) (n : ℕ) (x : X) → P x → AllByRecursion P (replicate n x)
 all_replicate P zero x h = tt
 all_replicate P (suc n) x h = (h, all_replicate P n x h)
 
@@ -42,7 +42,7 @@ rising_filled : (c k : ℕ) (ps : List Plan) → Rising c ps → Rising c (ps ++
 rising_filled c k [] r = rising_spare c k
 rising_filled c k (p ∷ ps) r = (r.0, rising_filled p.cycle k ps r.1)
 
-latest_fits : (c : ℕ) (ps : List Plan) → c < 2 ^ 32 → All (λ x. All Fits (packet_line x)) ps → latest c ps < 2 ^ 32
+latest_fits : (c : ℕ) (ps : List Plan) → c < 2 ^ 32 → AllByRecursion (λ x. AllByRecursion Fits (packet_line x)) ps → latest c ps < 2 ^ 32
 latest_fits c [] h a = h
 latest_fits c (p ∷ ps) h a = latest_fits p.cycle ps a.0.0 a.1
 
@@ -53,17 +53,17 @@ module _ (d : Draft) (n m : ℕ) (hn : length d.cables ≤ n) (hm : length d.pac
   length_packets : length (fill d n m).packets ≡ m
   length_packets = length-append d.packets (spare_plans d m) ∙ (let b = length-replicate (m - length d.packets) (spare_plan d.last) in omega arith)
 
-  fits_cables : Valid d → All (All Fits) (map cable_line (fill d n m).cables)
+  fits_cables : Valid d → AllByRecursion (AllByRecursion Fits) (map cable_line (fill d n m).cables)
   fits_cables v =
-      All-map (All Fits) cable_line (fill d n m).cables
-      (All-append (λ x. All Fits (cable_line x)) d.cables (spare_wires d n) v.cables (all_replicate (λ x. All Fits (cable_line x)) (n - length d.cables) spare_wire (omega arith, (tt, (omega arith, (tt, tt))))))
+      All-map (AllByRecursion Fits) cable_line (fill d n m).cables
+      (All-append (λ x. AllByRecursion Fits (cable_line x)) d.cables (spare_wires d n) v.cables (all_replicate (λ x. AllByRecursion Fits (cable_line x)) (n - length d.cables) spare_wire (omega arith, (tt, (omega arith, (tt, tt))))))
 
-  fits_packets : Valid d → All (All Fits) (map packet_line (fill d n m).packets)
+  fits_packets : Valid d → AllByRecursion (AllByRecursion Fits) (map packet_line (fill d n m).packets)
   fits_packets v =
       let l : d.last < 2 ^ 32 = subst (λ c. c < 2 ^ 32) (sym v.last) (latest_fits 0 d.packets (omega arith) v.packets) in
-      All-map (All Fits) packet_line (fill d n m).packets
-      (All-append (λ x. All Fits (packet_line x)) d.packets (spare_plans d m) v.packets
-      (all_replicate (λ x. All Fits (packet_line x)) (m - length d.packets) (spare_plan d.last) (l, (omega arith, (omega arith, (omega arith, (omega arith, (omega arith, tt))))))))
+      All-map (AllByRecursion Fits) packet_line (fill d n m).packets
+      (All-append (λ x. AllByRecursion Fits (packet_line x)) d.packets (spare_plans d m) v.packets
+      (all_replicate (λ x. AllByRecursion Fits (packet_line x)) (m - length d.packets) (spare_plan d.last) (l, (omega arith, (omega arith, (omega arith, (omega arith, (omega arith, tt))))))))
 
   pub formed_fill : Valid d → n < 2 ^ 32 → m < 2 ^ 32 → Uncabled d.shape n → Formed n m (fill d n m)
   formed_fill v a b u =
@@ -77,7 +77,7 @@ module _ (d : Draft) (n m : ℕ) (hn : length d.cables ≤ n) (hm : length d.pac
               v.run,
               (
                 (tt, (omega (arith, length_cables), tt)),
-                All-append (All Fits) (map cable_line S.cables) (packets_line (length S.packets) ∷ map packet_line S.packets) (fits_cables v) ((tt, (omega (arith, length_packets), tt)), fits_packets v),
+                All-append (AllByRecursion Fits) (map cable_line S.cables) (packets_line (length S.packets) ∷ map packet_line S.packets) (fits_cables v) ((tt, (omega (arith, length_packets), tt)), fits_packets v),
               ),
             ),
           ),

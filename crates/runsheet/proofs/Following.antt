@@ -1,6 +1,6 @@
 -- What line follows in a sheet that goes along with the lines that were read.
 use Rattle.std.proofs.Common.{◌≡◌, ℕ, zero, suc, ◌+◌, ◌-◌, ◌<◌, ◌≤◌, ◌⊎◌, List, [], ◌∷◌, ◌++◌, map, length, get_or, sym, refl, ap, ◌∙◌, subst, inl, inr, arith}
-use Rattle.std.specs.List.{AllByRecursion as All}
+use Rattle.std.specs.List.{AllByRecursion}
 use Rattle.std.proofs.lemmas.List.{length-append, length-map, get_or-drop, get_or_append_left, get_or-append_right, get_or-map, get_or_at}
 use Rattle.std.proofs.ByRecursion.{All-get_or}
 use Rattle.fabric.specs.declared.parts.Port.TheVariants.{N}
@@ -56,7 +56,7 @@ module _ (a b c e : List Field) (cs : List Wire) (m : ℕ) (qs : List Plan) wher
       ∙ ap (λ j. get_or (packets_line m ∷ map packet_line qs) j []) f
       ∙ get_or-map packet_line qs i no_plan [] l
 
-all_map_at : {X Y : Type 0} (P : Y → Type 0) (f : X → Y) (xs : List X) (i : ℕ) (d : X) → i < length xs → All P (map f xs) → P (f (get_or xs i d))
+all_map_at : {X Y : Type 0} (P : Y → Type 0) (f : X → Y) (xs : List X) (i : ℕ) (d : X) → i < length xs → AllByRecursion P (map f xs) → P (f (get_or xs i d))
 all_map_at P f [] i d l h = absurd (let z : ⊥ = omega arith in z)
 all_map_at P f (x ∷ xs) zero d l h = h.0
 all_map_at P f (x ∷ xs) (suc i) d l h = all_map_at P f xs i d (omega arith) h.1
@@ -70,7 +70,7 @@ latest_le c (p ∷ ps) (q ∷ qs) r l h = subst (λ k. latest k ps ≤ (get_or q
 
 -- line k + 1 of the lines L says what may come next, or there is none and none may come
 abbrev Coming : Draft → List (List Field) → ℕ → Type 0
-Coming d L k = (e : Entry) × (k < length L) × All Fits (entry_line e) × Suits d e × (get_or L k [] ≡ entry_line e)
+Coming d L k = (e : Entry) × (k < length L) × AllByRecursion Fits (entry_line e) × Suits d e × (get_or L k [] ≡ entry_line e)
 
 abbrev pub Follows : Draft → List (List Field) → ℕ → Type 0
 Follows d L k = Coming d L k ⊎ ((d.section ≡ section.End) × (length L ≡ k))
@@ -92,8 +92,8 @@ module _ (d : Draft) (c p : ℕ) (s : Said) (v : Valid d) (F : Formed c p s) whe
   sheet_packet : (n j : ℕ) → n ≡ length s.cables → j < length s.packets → get_or (lines s) (5 + n + j) [] ≡ packet_line (get_or s.packets j no_plan)
   sheet_packet n j e l = ap (λ k. get_or (lines s) (5 + k + j) []) e ∙ line_packet (shape_line s.shape) (kind_line s.kind) (run_line s.run) (cables_line (length s.cables)) s.cables (length s.packets) s.packets j l
 
-  fits_of : (j : ℕ) → j < length s.packets → All Fits (packet_line (get_or s.packets j no_plan))
-  fits_of j l = all_map_at (All Fits) packet_line s.packets j no_plan l (fits_packets s F.numbers).1
+  fits_of : (j : ℕ) → j < length s.packets → AllByRecursion Fits (packet_line (get_or s.packets j no_plan))
+  fits_of j l = all_map_at (AllByRecursion Fits) packet_line s.packets j no_plan l (fits_packets s F.numbers).1
 
   same_plans : Agree (all_lines d) (lines s) (length (all_lines d)) → length d.cables ≡ length s.cables → d.plans ≡ length s.packets
   same_plans a e =
@@ -109,7 +109,7 @@ module _ (d : Draft) (c p : ℕ) (s : Said) (v : Valid d) (F : Formed c p s) whe
       subst (Coming d (lines s)) (sym (length_cabled d)) (
         entry.Cable (get_or s.cables i no_wire),
         omega (arith, length_lines s),
-        all_map_at (All Fits) cable_line s.cables i no_wire l (fits_cables s F.numbers),
+        all_map_at (AllByRecursion Fits) cable_line s.cables i no_wire l (fits_cables s F.numbers),
         at,
         line_cable (shape_line s.shape) (kind_line s.kind) (run_line s.run) (cables_line (length s.cables)) s.cables (length s.packets) s.packets i l,
       )
@@ -127,7 +127,7 @@ module _ (d : Draft) (c p : ℕ) (s : Said) (v : Valid d) (F : Formed c p s) whe
       let i = length d.packets in
       let l : i < length s.packets = omega (arith, st.1) in
       let like : (j : ℕ) → j < i → (get_or d.packets j no_plan).cycle ≡ (get_or s.packets j no_plan).cycle =
-      λ j k. same_cycle (get_or d.packets j no_plan) (get_or s.packets j no_plan) (All-get_or (λ x. All Fits (packet_line x)) d.packets j no_plan k v.packets) (fits_of j (omega arith))
+      λ j k. same_cycle (get_or d.packets j no_plan) (get_or s.packets j no_plan) (All-get_or (λ x. AllByRecursion Fits (packet_line x)) d.packets j no_plan k v.packets) (fits_of j (omega arith))
       (ap row (sym (read_packet j k)) ∙ a (5 + length d.cables + j) (omega (arith, length_all d)) ∙ ap row (sheet_packet (length d.cables) j w (omega arith))) in
       subst (Coming d (lines s)) (sym (length_all d)) (
         entry.Packet (get_or s.packets i no_plan),

@@ -1,6 +1,6 @@
 -- How a reader moves on by a line.
 use Rattle.std.proofs.Common.{◌≡◌, ℕ, ◌+◌, ◌<◌, ◌≤◌, ltb, List, [], ◌∷◌, ◌++◌, map, length, take, set, sym, refl, ap, ◌∙◌, subst, append_assoc, arith}
-use Rattle.std.specs.List.{AllByRecursion as All}
+use Rattle.std.specs.List.{AllByRecursion}
 use Rattle.std.proofs.lemmas.List.{length-append, length-map, length-take-le, length_push, length-set, take_more_set, map_push}
 use Rattle.std.proofs.ByRecursion.{All-push}
 use Rattle.std.proofs.lemmas.Bool.{cond_both, ltb-true, ltb-false}
@@ -98,11 +98,11 @@ module _ (d : Draft) (n : ℕ) (v : Valid d) (u : Suits d (entry.Cables n)) (h :
 abbrev wired_by : Draft → List Wire → Section → Draft
 wired_by d cs s = record { section = s; shape = d.shape; kind = d.kind; run = d.run; wires = d.wires; cables = cs; plans = d.plans; packets = d.packets; last = d.last }
 
-module _ (d : Draft) (x : Wire) (v : Valid d) (u : Suits d (entry.Cable x)) (f : All Fits (cable_line x)) where
+module _ (d : Draft) (x : Wire) (v : Valid d) (u : Suits d (entry.Cable x)) (f : AllByRecursion Fits (cable_line x)) where
   wired_to : (s : Section) → so_far s (wired_by d (d.cables ++ x ∷ []) s) ≡ cabled_lines (wired_by d (d.cables ++ x ∷ []) s) → Stage s (wired_by d (d.cables ++ x ∷ []) s) → Moved d (entry.Cable x) (wired_by d (d.cables ++ x ∷ []) s)
   wired_to s far st =
       record {
-        valid = record { shape = v.shape; run = v.run; cycles = v.cycles; uncabled = v.uncabled; wires = v.wires; cables = All-push (λ y. All Fits (cable_line y)) d.cables x v.cables f; plans = v.plans; packets = v.packets; sized = v.sized; rising = v.rising; last = v.last; stage = st };
+        valid = record { shape = v.shape; run = v.run; cycles = v.cycles; uncabled = v.uncabled; wires = v.wires; cables = All-push (λ y. AllByRecursion Fits (cable_line y)) d.cables x v.cables f; plans = v.plans; packets = v.packets; sized = v.sized; rising = v.rising; last = v.last; stage = st };
         lines =
             far
             ∙ ap (λ m. shape_line d.shape ∷ kind_line d.kind ∷ run_line d.run ∷ cables_line d.wires ∷ m) (map_push cable_line d.cables x)
@@ -152,7 +152,7 @@ latest_push c (p ∷ ps) x = latest_push p.cycle ps x
 abbrev planned_by : Draft → List Plan → ℕ → Section → Draft
 planned_by d ps c s = record { section = s; shape = d.shape; kind = d.kind; run = d.run; wires = d.wires; cables = d.cables; plans = d.plans; packets = ps; last = c }
 
-module _ (d : Draft) (x : Plan) (v : Valid d) (u : Suits d (entry.Packet x)) (f : All Fits (packet_line x)) where
+module _ (d : Draft) (x : Plan) (v : Valid d) (u : Suits d (entry.Packet x)) (f : AllByRecursion Fits (packet_line x)) where
   planned_to : (s : Section) → so_far s (planned_by d (d.packets ++ x ∷ []) x.cycle s) ≡ all_lines (planned_by d (d.packets ++ x ∷ []) x.cycle s) → Stage s (planned_by d (d.packets ++ x ∷ []) x.cycle s) → Moved d (entry.Packet x) (planned_by d (d.packets ++ x ∷ []) x.cycle s)
   planned_to s far st =
       record {
@@ -165,7 +165,7 @@ module _ (d : Draft) (x : Plan) (v : Valid d) (u : Suits d (entry.Packet x)) (f 
               wires = v.wires;
               cables = v.cables;
               plans = v.plans;
-              packets = All-push (λ y. All Fits (packet_line y)) d.packets x v.packets f;
+              packets = All-push (λ y. AllByRecursion Fits (packet_line y)) d.packets x v.packets f;
               sized = All-push Sized d.packets x v.sized u.1;
               rising = rising_push 0 d.packets x v.rising (subst (λ c. c ≤ x.cycle) v.last u.2);
               last = sym (latest_push 0 d.packets x);
@@ -221,7 +221,7 @@ module _ (r : Reader) (s : Sound r) where
   pub put_cables : (n : ℕ) → Suits (draft r) (entry.Cables n) → n ≤ 128 → Grown r (entry.Cables n) (stepped (with_wires r n) (after r.wired n section.Cable section.Packets))
   put_cables n u h = grown r _ (entry.Cables n) s (moved_cables (draft r) n s.valid u h r.wired (sym (held 128 r.cables r.wired s.cables))) refl s.cables s.packets
 
-  pub put_cable : (x : Wire) → Suits (draft r) (entry.Cable x) → All Fits (cable_line x) → Grown r (entry.Cable x) (stepped (with_cable r x) (after (r.wired + 1) r.wires section.Cable section.Packets))
+  pub put_cable : (x : Wire) → Suits (draft r) (entry.Cable x) → AllByRecursion Fits (cable_line x) → Grown r (entry.Cable x) (stepped (with_cable r x) (after (r.wired + 1) r.wires section.Cable section.Packets))
   put_cable x u f =
       let at : Stage section.Cable (draft r) = subst (λ y. Stage y (draft r)) u s.valid.stage in
       let k = held 128 r.cables r.wired s.cables in
@@ -233,7 +233,7 @@ module _ (r : Reader) (s : Sound r) where
   pub put_packets : (n : ℕ) → Suits (draft r) (entry.Packets n) → n ≤ 256 → Grown r (entry.Packets n) (stepped (with_plans r n) (after r.planned n section.Packet section.End))
   put_packets n u h = grown r _ (entry.Packets n) s (moved_packets (draft r) n s.valid u h r.planned (sym (held 256 r.packets r.planned s.packets))) refl s.cables s.packets
 
-  pub put_packet : (x : Plan) → Suits (draft r) (entry.Packet x) → All Fits (packet_line x) → Grown r (entry.Packet x) (stepped (with_packet r x) (after (r.planned + 1) r.plans section.Packet section.End))
+  pub put_packet : (x : Plan) → Suits (draft r) (entry.Packet x) → AllByRecursion Fits (packet_line x) → Grown r (entry.Packet x) (stepped (with_packet r x) (after (r.planned + 1) r.plans section.Packet section.End))
   put_packet x u f =
       let at : Stage section.Packet (draft r) = subst (λ y. Stage y (draft r)) u.0 s.valid.stage in
       let k = held 256 r.packets r.planned s.packets in

@@ -1,6 +1,6 @@
 -- Parting a text by a byte, and joining the parts by it.
-use Rattle.std.proofs.Common.{◌≡◌, ℕ, ◌+◌, ◌<◌, ◌≤◌, eqb, ◌⊎◌, List, [], ◌∷◌, ◌++◌, length, get_or, take, drop, sym, refl, ap, ◌∙◌, subst, ⊎_elim, arith}
-use Rattle.std.specs.List.{flat_map, AllByRecursion as All}
+use Rattle.std.proofs.Common.{◌≡◌, ℕ, ◌+◌, ◌<◌, ◌≤◌, eqb, List, [], ◌∷◌, ◌++◌, length, get_or, take, drop, sym, refl, ap, ◌∙◌, subst, ⊎_elim, arith}
+use Rattle.std.specs.List.{flat_map, AllByRecursion}
 use Rattle.std.proofs.lemmas.List.{append-nil, take-append-drop, drop_more, take_all}
 use Rattle.std.proofs.lemmas.Bool.{cond-true, cond-false, eq-eqb, ne_eqb, cases_Bool, eqb-true}
 use Rattle.runsheet.specs.Texts.{parted, onto, spaced, Free}
@@ -24,7 +24,7 @@ pub parted_none : (b : ℕ) (s : List ℕ) (e : ℕ) → length s ≤ e → Free
 parted_none b s e l f = let t = take_all e s l in parted_free b s (subst (Free b) t f) ∙ ap (λ w. w ∷ []) (sym t)
 
 -- parting undoes the joining
-pub parted_spaced : (w : List ℕ) (ws : List (List ℕ)) → All (Free 32) (w ∷ ws) → parted 32 (spaced (w ∷ ws)) ≡ w ∷ ws
+pub parted_spaced : (w : List ℕ) (ws : List (List ℕ)) → AllByRecursion (Free 32) (w ∷ ws) → parted 32 (spaced (w ∷ ws)) ≡ w ∷ ws
 parted_spaced w [] h = ap (parted 32) (append-nil w) ∙ parted_free 32 w h.0
 parted_spaced w (v ∷ vs) h = parted_at 32 w (spaced (v ∷ vs)) h.0 ∙ ap (λ r. w ∷ r) (parted_spaced v vs h.1)
 

@@ -1,6 +1,6 @@
 -- Numbers that stand one after another, and the numbers before a packet's words.
 use Rattle.std.proofs.Common.{◌≡◌, ℕ, ◌+◌, ◌^◌, ◌<◌, ◌≤◌, List, [], ◌∷◌, ◌++◌, map, length, get_or, take, drop, set, decimal, sym, ap, ◌∙◌, subst, arith}
-use Rattle.std.specs.List.{AllByRecursion as All}
+use Rattle.std.specs.List.{AllByRecursion}
 use Rattle.std.proofs.lemmas.List.{append-nil, append_assoc, length-append, length-map, length-take-le, get_or_append_left, get_or-map, get_or-take, drop_at, drop_more, take_more_set, map_push, nil_from_length}
 use Rattle.std.proofs.ByRecursion.{All-get_or, All-push}
 use Rattle.std.proofs.lemmas.Fmt.{decimal_injective}
@@ -29,10 +29,10 @@ figures_more ws ns i n now later l e h =
     ∙ sym (append_assoc (figures (take i ns)) (decimal n ∷ []) later)
     ∙ ap (λ r. r ++ later) (sym (map_push shown (map number (take i ns)) (number n)) ∙ ap (map shown) (sym (map_push number (take i ns) n)) ∙ ap figures (sym (take_more_set ns i n l)))
 
-pub fits_more : (ns : List ℕ) (i n : ℕ) → i < length ns → n < 2 ^ 32 → All Fits (map number (take i ns)) → All Fits (map number (take (i + 1) (set ns i n)))
+pub fits_more : (ns : List ℕ) (i n : ℕ) → i < length ns → n < 2 ^ 32 → AllByRecursion Fits (map number (take i ns)) → AllByRecursion Fits (map number (take (i + 1) (set ns i n)))
 fits_more ns i n l h a =
-    subst (λ xs. All Fits (map number xs)) (sym (take_more_set ns i n l))
-    (subst (All Fits) (sym (map_push number (take i ns) n)) (All-push Fits (map number (take i ns)) (number n) a h))
+    subst (λ xs. AllByRecursion Fits (map number xs)) (sym (take_more_set ns i n l))
+    (subst (AllByRecursion Fits) (sym (map_push number (take i ns) n)) (All-push Fits (map number (take i ns)) (number n) a h))
 
 -- i numbers were read, and what follows is the one that stands at i
 pub figures_next : (xs ns : List ℕ) (k i : ℕ) (rest more : List (List ℕ)) → i < k → k ≤ length xs → i ≤ length ns →
@@ -47,7 +47,7 @@ figures_next xs ns k i rest more l m n e =
     ∙ ap (λ h. h ∷ drop (i + 1) (figures (take k xs) ++ more))
     (get_or_append_left (figures (take k xs)) more [] i inside ∙ getD_figures (take k xs) i (omega (arith, length-take-le k xs m)) ∙ ap decimal (get_or-take k xs i 0 l))
 
-pub fits_at : (xs : List ℕ) (k i : ℕ) → i < k → k ≤ length xs → All Fits (map number (take k xs)) → get_or xs i 0 < 2 ^ 32
+pub fits_at : (xs : List ℕ) (k i : ℕ) → i < k → k ≤ length xs → AllByRecursion Fits (map number (take k xs)) → get_or xs i 0 < 2 ^ 32
 fits_at xs k i l m a =
     let b = length-take-le k xs m in
     let c : i < length (map number (take k xs)) = subst (λ n. i < n) (sym (length-map (take k xs) number ∙ b)) l in
@@ -65,7 +65,7 @@ figures_end xs ns k ws rest l m h e =
 
 -- the numbers before a packet's words, each followed by what was left
 pub same_front : (ws w₁ w₂ w₃ w₄ rest : List (List ℕ)) (a b c d n : ℕ) (x : Packet) → ws ≡ decimal a ∷ w₁ → w₁ ≡ decimal b ∷ w₂ → w₂ ≡ decimal c ∷ w₃ → w₃ ≡ decimal d ∷ w₄ → w₄ ≡ decimal n ∷ rest →
-    a < 2 ^ 32 → n < 2 ^ 32 → All Fits (packet_line x) → ws ≡ map shown (packet_line x) → (a ≡ x.cycle) × (n ≡ x.count) × (rest ≡ figures (take n x.words))
+    a < 2 ^ 32 → n < 2 ^ 32 → AllByRecursion Fits (packet_line x) → ws ≡ map shown (packet_line x) → (a ≡ x.cycle) × (n ≡ x.count) × (rest ≡ figures (take n x.words))
 same_front ws w₁ w₂ w₃ w₄ rest a b c d n x h₁ h₂ h₃ h₄ h₅ la ln f e =
     let last = after h₄ (after h₃ (after h₂ (after h₁ e))) in
     let m : n ≡ x.count = decimal_injective n x.count (omega arith) (omega (arith, f.1.1.1.1.0)) (first_of h₅ last) in

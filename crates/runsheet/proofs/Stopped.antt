@@ -1,6 +1,6 @@
 -- Where the reader stops, no sheet goes on; where it ends, the text is the sheet's.
 use Rattle.std.proofs.Common.{◌≡◌, ℕ, ◌+◌, ◌^◌, ◌<◌, ◌≤◌, List, [], ◌∷◌, ◌++◌, map, length, get_or, sym, refl, ap, ◌∙◌, subst, inr, ⊎_elim, append_assoc, append-nil, arith}
-use Rattle.std.specs.List.{AllByRecursion as All}
+use Rattle.std.specs.List.{AllByRecursion}
 use Rattle.std.proofs.lemmas.List.{length-append, length_push}
 use Rattle.std.proofs.ByRecursion.{All-get_or}
 use Rattle.fabric.specs.declared.parts.Cable.{Cable as Wire}
@@ -30,7 +30,7 @@ Unlimited s = Formed (2 ^ 32) (2 ^ 32) s
 unlimited : (s : Said) → Lawful s → Unlimited s
 unlimited s F = weaker 128 256 (2 ^ 32) (2 ^ 32) s (omega arith) (omega arith) F
 
-tidied : (s : Said) → Unlimited s → All Tidy (lines s)
+tidied : (s : Said) → Unlimited s → AllByRecursion Tidy (lines s)
 tidied s F = tidy_lines s F.numbers
 
 -- the bytes of a line and what follows it
@@ -47,8 +47,8 @@ module _ (d : Draft) (bs rest : List ℕ) (v : Valid d) (o : bs ≡ text (lines_
   first : (Z : List (List Field)) × (lines (fill d d.wires d.plans) ≡ lines_read d ++ Z)
   first = begun d.section d v.stage (few_cables d.section d v.stage) (few_packets d.section d v.stage)
 
-  tidy_read : All Tidy (lines_read d)
-  tidy_read = all_left Tidy (lines_read d) first.0 (subst (All Tidy) first.1 (tidied (fill d d.wires d.plans) (unlimited (fill d d.wires d.plans) (lawful d v))))
+  tidy_read : AllByRecursion Tidy (lines_read d)
+  tidy_read = all_left Tidy (lines_read d) first.0 (subst (AllByRecursion Tidy) first.1 (tidied (fill d d.wires d.plans) (unlimited (fill d d.wires d.plans) (lawful d v))))
 
   refuted : Barred entry_line (Suits d) rest → (d.section ≡ section.End → rest ≡ [] → ⊥) → (s : Said) → Unlimited s → Matched (lines_read d) (lines s) rest → ⊥
   refuted b z s F m =
@@ -79,7 +79,7 @@ module _ (d : Draft) (bs rest : List ℕ) (v : Valid d) (o : bs ≡ text (lines_
         fault = inr (at, subst (λ k. Goes_on lines Unlimited k bs) (length_push A l) (along lines (A ++ l ∷ []) bs more (onward A (A ++ l ∷ []) l bs rest more o refl w) Unlimited s Z big e));
       }
 
-  over_cables : (f : Fault) (n : ℕ) (more : List ℕ) → told f ≡ too_many (length (lines_read d) + 1) → All Fits (cables_line n) → Suits d (entry.Cables n) → 128 < n → rest ≡ written (cables_line n) ++ more → Stops lines Lawful Unlimited bs (length (lines_read d)) f
+  over_cables : (f : Fault) (n : ℕ) (more : List ℕ) → told f ≡ too_many (length (lines_read d) + 1) → AllByRecursion Fits (cables_line n) → Suits d (entry.Cables n) → 128 < n → rest ≡ written (cables_line n) ++ more → Stops lines Lawful Unlimited bs (length (lines_read d)) f
   over_cables f n more at g u x w =
       let st : Stage section.Cables d = subst (λ s. Stage s d) u.0 v.stage in
       let three : length (lines_read d) ≡ 3 = ap (λ s. length (so_far s d)) u.0 in
@@ -95,7 +95,7 @@ module _ (d : Draft) (bs rest : List ℕ) (v : Valid d) (o : bs ≡ text (lines_
         λ e. let same = same_cables (length t.cables) n F.numbers.1.1.1.0 g (ap (λ k. row (get_or (lines t) k [])) (sym three) ∙ e) in omega (arith, F.cables),
       ))
 
-  over_packets : (f : Fault) (n : ℕ) (more : List ℕ) → told f ≡ too_many (length (lines_read d) + 1) → All Fits (packets_line n) → Suits d (entry.Packets n) → 256 < n → rest ≡ written (packets_line n) ++ more → Stops lines Lawful Unlimited bs (length (lines_read d)) f
+  over_packets : (f : Fault) (n : ℕ) (more : List ℕ) → told f ≡ too_many (length (lines_read d) + 1) → AllByRecursion Fits (packets_line n) → Suits d (entry.Packets n) → 256 < n → rest ≡ written (packets_line n) ++ more → Stops lines Lawful Unlimited bs (length (lines_read d)) f
   over_packets f n more at g u x w =
       let st : Stage section.Packets d = subst (λ s. Stage s d) u v.stage in
       let all : lines_read d ≡ cabled_lines d = ap (λ s. so_far s d) u in
@@ -117,7 +117,7 @@ module _ (d : Draft) (bs rest : List ℕ) (v : Valid d) (o : bs ≡ text (lines_
             omega (arith, F.packets),
       ))
 
-  overs : (f : Fault) (e : Entry) (more : List ℕ) → told f ≡ too_many (length (lines_read d) + 1) → All Fits (entry_line e) → Suits d e → Exceeds e → rest ≡ written (entry_line e) ++ more → Stops lines Lawful Unlimited bs (length (lines_read d)) f
+  overs : (f : Fault) (e : Entry) (more : List ℕ) → told f ≡ too_many (length (lines_read d) + 1) → AllByRecursion Fits (entry_line e) → Suits d e → Exceeds e → rest ≡ written (entry_line e) ++ more → Stops lines Lawful Unlimited bs (length (lines_read d)) f
   overs f (entry.Shape y) more at g u x w = absurd x
   overs f (entry.Kind y) more at g u x w = absurd x
   overs f (entry.Run y) more at g u x w = absurd x

@@ -1,6 +1,6 @@
 -- Where reading stops, no document goes on.
 use Rattle.std.proofs.Common.{◌≡◌, ℕ, ◌+◌, ◌-◌, ◌<◌, ◌≤◌, List, [], ◌∷◌, ◌++◌, map, length, get_or, take, drop, sym, refl, ap, ◌∙◌, subst, inl, append_assoc, arith}
-use Rattle.std.specs.List.{AllByRecursion as All}
+use Rattle.std.specs.List.{AllByRecursion}
 use Rattle.std.proofs.lemmas.List.{take-append-drop, take_all, take_rest, drop_more, take_at, length-append, flat_map_more}
 use Rattle.runsheet.specs.Texts.{Field, Fits, Free, Lined, Barred, shown, spaced, row, written, text, parted}
 use Rattle.runsheet.specs.Fields.{Unlike}
@@ -46,7 +46,7 @@ module _ {X : Type 0} (line : X → List Field) (P : X → Type 0) (rest : List 
   pub no_line : Free 10 rest → Barred line P rest
   no_line f x more h p e = (free_right 10 (row (line x)) (10 ∷ more) (subst (Free 10) (e ∙ append_assoc (row (line x)) (10 ∷ []) more) f)).0 refl
 
-  pub other_line : ((x : X) → All Fits (line x) → Tidy (line x)) → (ws : List (List ℕ)) (more : List ℕ) → Lined rest ws more → Unlike line P ws → Barred line P rest
+  pub other_line : ((x : X) → AllByRecursion Fits (line x) → Tidy (line x)) → (ws : List (List ℕ)) (more : List ℕ) → Lined rest ws more → Unlike line P ws → Barred line P rest
   other_line t ws more n none x m h p e =
       let T = t x h in
       let same = (cut n.0 (row (line x)) more m n.2 T.ends (sym n.1 ∙ e ∙ append_assoc (row (line x)) (10 ∷ []) m)).0 in
@@ -67,12 +67,12 @@ module _ {D : Type 0} (lines : D → List (List Field)) (A : List (List Field)) 
   )
 
   -- one that goes on agrees with them, and goes on with the rest
-  pub goes_on : (P : D → Type 0) → ((d : D) → P d → All Tidy (lines d)) → All Tidy A → (g : Goes_on lines P (length A + 1) bs) → Matched A (lines g.0) rest
+  pub goes_on : (P : D → Type 0) → ((d : D) → P d → AllByRecursion Tidy (lines d)) → AllByRecursion Tidy A → (g : Goes_on lines P (length A + 1) bs) → Matched A (lines g.0) rest
   goes_on P tidy t g = matched A (lines g.0) rest g.2.0 t (tidy g.0 g.1) (sym o ∙ g.2.1) g.2.2
 
   -- none goes on
-  pub halted : (Lawful Unlimited : D → Type 0) (f : Fault) (d : D) (Z : List (List Field)) → ((d : D) → Lawful d → Unlimited d) → ((d : D) → Unlimited d → All Tidy (lines d)) →
-      Lawful d → lines d ≡ A ++ Z → told f ≡ ill_formed (length A + 1) → All Tidy A → ((d : D) → Unlimited d → Matched A (lines d) rest → ⊥) → Stops lines Lawful Unlimited bs (length A) f
+  pub halted : (Lawful Unlimited : D → Type 0) (f : Fault) (d : D) (Z : List (List Field)) → ((d : D) → Lawful d → Unlimited d) → ((d : D) → Unlimited d → AllByRecursion Tidy (lines d)) →
+      Lawful d → lines d ≡ A ++ Z → told f ≡ ill_formed (length A + 1) → AllByRecursion Tidy A → ((d : D) → Unlimited d → Matched A (lines d) rest → ⊥) → Stops lines Lawful Unlimited bs (length A) f
   halted Lawful Unlimited f d Z weaker tidy h z at t none =
       let no : Goes_on lines Unlimited (length A + 1) bs → ⊥ = λ g. none g.0 g.1 (goes_on Unlimited tidy t g) in
       record {

@@ -1,6 +1,6 @@
 -- A line's fields can be told from its bytes: no field holds a space or a byte 10.
 use Rattle.std.proofs.Common.{◌≡◌, ℕ, ◌^◌, ◌<◌, List, [], ◌∷◌, ◌++◌, map, length, get_or, decimal, sym, ap, ◌∙◌, arith}
-use Rattle.std.specs.List.{flat_map, AllByRecursion as All}
+use Rattle.std.specs.List.{flat_map, AllByRecursion}
 use Rattle.std.proofs.lemmas.Fmt.{decimal_injective}
 use Rattle.std.proofs.lemmas.Str.Parse.{digit_at}
 use Rattle.std.proofs.ByRecursion.{All-append, All-from_get_or}
@@ -40,11 +40,11 @@ free_10 : (f : Field) → Fits f → Plain f → Free 10 (shown f)
 free_10 (word w) h p = p.1
 free_10 (number n) h p = decimal_free 10 n h (omega arith)
 
-all_32 : (fs : List Field) → All Fits fs → All Plain fs → All (Free 32) (map shown fs)
+all_32 : (fs : List Field) → AllByRecursion Fits fs → AllByRecursion Plain fs → AllByRecursion (Free 32) (map shown fs)
 all_32 [] h p = tt
 all_32 (f ∷ fs) h p = (free_32 f h.0 p.0, all_32 fs h.1 p.1)
 
-joined_free : (fs : List Field) → All Fits fs → All Plain fs → Free 10 (flat_map (λ v. 32 ∷ v) (map shown fs))
+joined_free : (fs : List Field) → AllByRecursion Fits fs → AllByRecursion Plain fs → Free 10 (flat_map (λ v. 32 ∷ v) (map shown fs))
 joined_free [] h p = tt
 joined_free (f ∷ fs) h p = (omega arith, All-append (λ x. x ≡ 10 → ⊥) (shown f) (flat_map (λ v. 32 ∷ v) (map shown fs)) (free_10 f h.0 p.0) (joined_free fs h.1 p.1))
 
@@ -52,14 +52,14 @@ pub record Tidy (fs : List Field) : Type 0 where
   pub ends : Free 10 (row fs)
   pub parts : parted 32 (row fs) ≡ map shown fs
 
-tidy : (f : Field) (fs : List Field) → All Fits (f ∷ fs) → All Plain (f ∷ fs) → Tidy (f ∷ fs)
+tidy : (f : Field) (fs : List Field) → AllByRecursion Fits (f ∷ fs) → AllByRecursion Plain (f ∷ fs) → Tidy (f ∷ fs)
 tidy f fs h p =
     record {
       ends = All-append (λ x. x ≡ 10 → ⊥) (shown f) (flat_map (λ v. 32 ∷ v) (map shown fs)) (free_10 f h.0 p.0) (joined_free fs h.1 p.1);
       parts = parted_spaced (shown f) (map shown fs) (all_32 (f ∷ fs) h p);
     }
 
-pub tidy_shape : (x : Shape) → All Fits (shape_line x) → Tidy (shape_line x)
+pub tidy_shape : (x : Shape) → AllByRecursion Fits (shape_line x) → Tidy (shape_line x)
 tidy_shape (Mesh w h) f = tidy _ _ f ((omega arith, omega arith), (tt, (tt, tt)))
 tidy_shape (Cabled n) f = tidy _ _ f ((omega arith, omega arith), (tt, tt))
 
@@ -67,13 +67,13 @@ kind_plain : (x : SwitchKind) → Plain (word (kind_word x))
 kind_plain Chipper = (omega arith, omega arith)
 kind_plain Bless = (omega arith, omega arith)
 
-pub tidy_kind : (x : SwitchKind) → All Fits (kind_line x) → Tidy (kind_line x)
+pub tidy_kind : (x : SwitchKind) → AllByRecursion Fits (kind_line x) → Tidy (kind_line x)
 tidy_kind x f = tidy _ _ f ((omega arith, omega arith), (kind_plain x, tt))
 
-pub tidy_run : (x : Run) → All Fits (run_line x) → Tidy (run_line x)
+pub tidy_run : (x : Run) → AllByRecursion Fits (run_line x) → Tidy (run_line x)
 tidy_run x f = tidy _ _ f ((omega arith, omega arith), (tt, (tt, (tt, (tt, (tt, tt))))))
 
-pub tidy_cables : (n : ℕ) → All Fits (cables_line n) → Tidy (cables_line n)
+pub tidy_cables : (n : ℕ) → AllByRecursion Fits (cables_line n) → Tidy (cables_line n)
 tidy_cables n f = tidy _ _ f ((omega arith, omega arith), (tt, tt))
 
 letter_plain : (p : Port) → Plain (word (letter p))
@@ -82,20 +82,20 @@ letter_plain E = (omega arith, omega arith)
 letter_plain S = (omega arith, omega arith)
 letter_plain W = (omega arith, omega arith)
 
-pub tidy_cable : (x : Cable) → All Fits (cable_line x) → Tidy (cable_line x)
+pub tidy_cable : (x : Cable) → AllByRecursion Fits (cable_line x) → Tidy (cable_line x)
 tidy_cable x f = tidy _ _ f (tt, (letter_plain x.one.port, (tt, (letter_plain x.other.port, tt))))
 
-pub tidy_packets : (n : ℕ) → All Fits (packets_line n) → Tidy (packets_line n)
+pub tidy_packets : (n : ℕ) → AllByRecursion Fits (packets_line n) → Tidy (packets_line n)
 tidy_packets n f = tidy _ _ f ((omega arith, omega arith), (tt, tt))
 
-numbers_plain : (ns : List ℕ) → All Plain (map number ns)
+numbers_plain : (ns : List ℕ) → AllByRecursion Plain (map number ns)
 numbers_plain [] = tt
 numbers_plain (n ∷ ns) = (tt, numbers_plain ns)
 
-pub tidy_packet : (x : Packet) → All Fits (packet_line x) → Tidy (packet_line x)
+pub tidy_packet : (x : Packet) → AllByRecursion Fits (packet_line x) → Tidy (packet_line x)
 tidy_packet x f = tidy _ _ f (tt, (tt, (tt, (tt, (tt, numbers_plain (payload x))))))
 
-pub tidy_entry : (e : Entry) → All Fits (entry_line e) → Tidy (entry_line e)
+pub tidy_entry : (e : Entry) → AllByRecursion Fits (entry_line e) → Tidy (entry_line e)
 tidy_entry (entry.Shape x) f = tidy_shape x f
 tidy_entry (entry.Kind x) f = tidy_kind x f
 tidy_entry (entry.Run x) f = tidy_run x f
@@ -104,27 +104,27 @@ tidy_entry (entry.Cable x) f = tidy_cable x f
 tidy_entry (entry.Packets n) f = tidy_packets n f
 tidy_entry (entry.Packet x) f = tidy_packet x f
 
-tidy_all : {X : Type 0} (line : X → List Field) → ((x : X) → All Fits (line x) → Tidy (line x)) → (xs : List X) → All (All Fits) (map line xs) → All Tidy (map line xs)
+tidy_all : {X : Type 0} (line : X → List Field) → ((x : X) → AllByRecursion Fits (line x) → Tidy (line x)) → (xs : List X) → AllByRecursion (AllByRecursion Fits) (map line xs) → AllByRecursion Tidy (map line xs)
 tidy_all line t [] h = tt
 tidy_all line t (x ∷ xs) h = (t x h.0, tidy_all line t xs h.1)
 
 -- of two lists one after another
-pub all_left : {X : Type 0} (P : X → Type 0) (xs ys : List X) → All P (xs ++ ys) → All P xs
+pub all_left : {X : Type 0} (P : X → Type 0) (xs ys : List X) → AllByRecursion P (xs ++ ys) → AllByRecursion P xs
 all_left P [] ys h = tt
 all_left P (x ∷ xs) ys h = (h.0, all_left P xs ys h.1)
 
-pub all_right : {X : Type 0} (P : X → Type 0) (xs ys : List X) → All P (xs ++ ys) → All P ys
+pub all_right : {X : Type 0} (P : X → Type 0) (xs ys : List X) → AllByRecursion P (xs ++ ys) → AllByRecursion P ys
 all_right P [] ys h = h
 all_right P (x ∷ xs) ys h = all_right P xs ys h.1
 
 -- the numbers of a sheet's lists
-pub fits_cables : (s : Said) → All (All Fits) (lines s) → All (All Fits) (map cable_line s.cables)
-fits_cables s h = all_left (All Fits) (map cable_line s.cables) (packets_line (length s.packets) ∷ map packet_line s.packets) h.1.1.1.1
+pub fits_cables : (s : Said) → AllByRecursion (AllByRecursion Fits) (lines s) → AllByRecursion (AllByRecursion Fits) (map cable_line s.cables)
+fits_cables s h = all_left (AllByRecursion Fits) (map cable_line s.cables) (packets_line (length s.packets) ∷ map packet_line s.packets) h.1.1.1.1
 
-pub fits_packets : (s : Said) → All (All Fits) (lines s) → All (All Fits) (packets_line (length s.packets) ∷ map packet_line s.packets)
-fits_packets s h = all_right (All Fits) (map cable_line s.cables) (packets_line (length s.packets) ∷ map packet_line s.packets) h.1.1.1.1
+pub fits_packets : (s : Said) → AllByRecursion (AllByRecursion Fits) (lines s) → AllByRecursion (AllByRecursion Fits) (packets_line (length s.packets) ∷ map packet_line s.packets)
+fits_packets s h = all_right (AllByRecursion Fits) (map cable_line s.cables) (packets_line (length s.packets) ∷ map packet_line s.packets) h.1.1.1.1
 
-pub tidy_lines : (s : Said) → All (All Fits) (lines s) → All Tidy (lines s)
+pub tidy_lines : (s : Said) → AllByRecursion (AllByRecursion Fits) (lines s) → AllByRecursion Tidy (lines s)
 tidy_lines s h =
     let q = fits_packets s h in
     let rest =
@@ -140,20 +140,20 @@ second : List (List ℕ) → List ℕ
 second ws = get_or ws 1 []
 
 -- a count can be told from the bytes of its line
-pub same_cables : (m n : ℕ) → All Fits (cables_line m) → All Fits (cables_line n) → row (cables_line m) ≡ row (cables_line n) → m ≡ n
+pub same_cables : (m n : ℕ) → AllByRecursion Fits (cables_line m) → AllByRecursion Fits (cables_line n) → row (cables_line m) ≡ row (cables_line n) → m ≡ n
 unfolding second
 same_cables m n h k e = decimal_injective m n (omega (arith, h.1.0)) (omega (arith, k.1.0)) (ap second (same_words (cables_line m) (cables_line n) (tidy_cables m h) (tidy_cables n k) e))
 
-pub same_packets : (m n : ℕ) → All Fits (packets_line m) → All Fits (packets_line n) → row (packets_line m) ≡ row (packets_line n) → m ≡ n
+pub same_packets : (m n : ℕ) → AllByRecursion Fits (packets_line m) → AllByRecursion Fits (packets_line n) → row (packets_line m) ≡ row (packets_line n) → m ≡ n
 unfolding second
 same_packets m n h k e = decimal_injective m n (omega (arith, h.1.0)) (omega (arith, k.1.0)) (ap second (same_words (packets_line m) (packets_line n) (tidy_packets m h) (tidy_packets n k) e))
 
 -- and so can a packet's cycle
-pub same_cycle : (x y : Packet) → All Fits (packet_line x) → All Fits (packet_line y) → row (packet_line x) ≡ row (packet_line y) → x.cycle ≡ y.cycle
+pub same_cycle : (x y : Packet) → AllByRecursion Fits (packet_line x) → AllByRecursion Fits (packet_line y) → row (packet_line x) ≡ row (packet_line y) → x.cycle ≡ y.cycle
 same_cycle x y h k e = decimal_injective x.cycle y.cycle (omega (arith, h.0)) (omega (arith, k.0)) (ap (λ ws. get_or ws 0 []) (same_words (packet_line x) (packet_line y) (tidy_packet x h) (tidy_packet y k) e))
 
 -- and the kind of a layout
-pub same_uncabled : (x y : Shape) (n : ℕ) → All Fits (shape_line x) → All Fits (shape_line y) → row (shape_line x) ≡ row (shape_line y) → Uncabled y n → Uncabled x n
+pub same_uncabled : (x y : Shape) (n : ℕ) → AllByRecursion Fits (shape_line x) → AllByRecursion Fits (shape_line y) → row (shape_line x) ≡ row (shape_line y) → Uncabled y n → Uncabled x n
 same_uncabled (Mesh w h) (Mesh v i) n f g e u = u
 same_uncabled (Mesh w h) (Cabled m) n f g e u = absurd (mesh_apart _ _ (same_words (shape_line (Mesh w h)) (shape_line (Cabled m)) (tidy_shape (Mesh w h) f) (tidy_shape (Cabled m) g) e))
 same_uncabled (Cabled m) y n f g e u = tt

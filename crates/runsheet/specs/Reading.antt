@@ -1,6 +1,6 @@
 -- How far the reader has come, and what may come next.
 use Rattle.std.specs.Prelude.{◌≡◌, ℕ, ◌+◌, ◌<◌, ◌≤◌, cond, ◌⊎◌, List, [], ◌∷◌, ◌++◌, map, length, take, Result, MatchResult, nat_lt}
-use Rattle.std.specs.List.{AllByRecursion as All}
+use Rattle.std.specs.List.{AllByRecursion}
 use Rattle.fabric.specs.declared.parts.Cable.{Cable as Wire}
 use Rattle.runsheet.specs.Texts.{Field, Fits, shown, written, Barred, Any}
 use Rattle.runsheet.specs.Fields.{Unlike}
@@ -75,7 +75,7 @@ Bars section.End d ws = Unit {0}
 
 -- the words of line k are those of a line that may come next, or of none
 abbrev pub Judges : Draft → ℕ → List (List ℕ) → Result Entry Fault → Type 0
-Judges d k ws r = MatchResult r (λ e. (ws ≡ map shown (entry_line e)) × All Fits (entry_line e) × Suits d e) (λ f. (told f ≡ ill_formed k) × Bars d.section d ws)
+Judges d k ws r = MatchResult r (λ e. (ws ≡ map shown (entry_line e)) × AllByRecursion Fits (entry_line e) × Suits d e) (λ f. (told f ≡ ill_formed k) × Bars d.section d ws)
 
 -- a count within its limit, and one above it
 abbrev pub Within : Entry → Type 0
@@ -140,15 +140,15 @@ latest c [] = c
 latest c (p ∷ ps) = latest p.cycle ps
 
 pub record Valid (d : Draft) : Type 0 where
-  pub shape : All Fits (shape_line d.shape)
-  pub run : All Fits (run_line d.run)
+  pub shape : AllByRecursion Fits (shape_line d.shape)
+  pub run : AllByRecursion Fits (run_line d.run)
   pub cycles : Brief d.run
   pub uncabled : Uncabled d.shape d.wires
   pub wires : d.wires ≤ 128
-  pub cables : All (λ x. All Fits (cable_line x)) d.cables
+  pub cables : AllByRecursion (λ x. AllByRecursion Fits (cable_line x)) d.cables
   pub plans : d.plans ≤ 256
-  pub packets : All (λ x. All Fits (packet_line x)) d.packets
-  pub sized : All Sized d.packets
+  pub packets : AllByRecursion (λ x. AllByRecursion Fits (packet_line x)) d.packets
+  pub sized : AllByRecursion Sized d.packets
   pub rising : Rising 0 d.packets
   pub last : d.last ≡ latest 0 d.packets
   pub stage : Stage d.section d
@@ -195,7 +195,7 @@ stepped r s =
 abbrev pub Refuses : Draft → ℕ → List ℕ → Fault → Type 0
 Refuses d k rest f =
     ((told f ≡ ill_formed k) × Barred entry_line (Suits d) rest)
-    ⊎ ((told f ≡ too_many k) × ((e : Entry) × (more : List ℕ) × All Fits (entry_line e) × Suits d e × Exceeds e × (rest ≡ written (entry_line e) ++ more)))
+    ⊎ ((told f ≡ too_many k) × ((e : Entry) × (more : List ℕ) × AllByRecursion Fits (entry_line e) × Suits d e × Exceeds e × (rest ≡ written (entry_line e) ++ more)))
 
 -- the line that comes next was read, and what follows it
 abbrev pub Reached : Reader → Reader → List ℕ → List ℕ → Type 0

@@ -1,6 +1,6 @@
 -- A run sheet, and its one text.
 use Rattle.std.specs.Prelude.{◌≡◌, ℕ, ◌^◌, ◌≤◌, List, [], ◌∷◌, ◌++◌, map, length, take, codes}
-use Rattle.std.specs.List.{AllByRecursion as All}
+use Rattle.std.specs.List.{AllByRecursion}
 use Rattle.fabric.specs.Ports.{letter}
 use Rattle.fabric.specs.declared.parts.Slot.{Slot}
 use Rattle.fabric.specs.declared.parts.Cable.{Cable}
@@ -76,12 +76,12 @@ Rising c (p ∷ ps) = (c ≤ p.cycle) × Rising p.cycle ps
 
 -- the sheet is of its form, with at most c cables and p packets
 pub record Formed (c p : ℕ) (s : Said) : Type 0 where
-  pub numbers : All (All Fits) (lines s)
+  pub numbers : AllByRecursion (AllByRecursion Fits) (lines s)
   pub cycles : Brief s.run
   pub uncabled : Uncabled s.shape (length s.cables)
   pub cables : length s.cables ≤ c
   pub packets : length s.packets ≤ p
-  pub sized : All Sized s.packets
+  pub sized : AllByRecursion Sized s.packets
   pub rising : Rising 0 s.packets
 
 -- the bytes are the text of this sheet, which is of its form

@@ -1,6 +1,6 @@
 // The reader of run sheets judges each line by the section that it is in.
 ghost use Rattle.std.specs.Prelude.{◌≡◌, ◌+◌, ◌≤◌, MatchResult};
-ghost use Rattle.std.specs.List.{AllByRecursion as All};
+ghost use Rattle.std.specs.List.{AllByRecursion};
 ghost use Rattle.runsheet.specs.Faults.{told, too_many};
 ghost use Rattle.runsheet.specs.Texts.{parted, Fits};
 ghost use Rattle.runsheet.specs.Said.{said};
@@ -194,7 +194,7 @@ impl Reader {
     // Takes in what a line says.
     fn put(&mut self, entry: Entry)
         requires sound { Sound self.old }
-        requires suits { All Fits (entry_line entry) × Suits (draft self.old) entry × Within entry }
+        requires suits { AllByRecursion Fits (entry_line entry) × Suits (draft self.old) entry × Within entry }
         ensures { Grown self.old entry self.new }
     {
         match entry {

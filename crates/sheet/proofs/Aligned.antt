@@ -1,6 +1,6 @@
 -- Two texts made of lines agree line by line.
 use Rattle.std.proofs.Common.{◌≡◌, ℕ, zero, suc, ◌+◌, ◌<◌, ◌≤◌, ◌⊎◌, List, [], ◌∷◌, ◌++◌, length, get_or, take, drop, sym, refl, ap, ◌∙◌, inl, inr, ⊎_elim, append_assoc, arith}
-use Rattle.std.specs.List.{AllByRecursion as All}
+use Rattle.std.specs.List.{AllByRecursion}
 use Rattle.std.proofs.lemmas.List.{length-append, length-drop, length-take-le, take_all, get_or-take, drop-take, drop_more, append-nil}
 use Rattle.std.proofs.ByRecursion.{All-take}
 use Rattle.std.proofs.lemmas.Bool.{cases_lt}
@@ -26,7 +26,7 @@ agree_more : (a b : List Field) (A B : List (List Field)) (k : ℕ) → row a �
 agree_more a b A B k e h zero l = e
 agree_more a b A B k e h (suc j) l = h j (omega arith)
 
-pub aligned : (A B : List (List Field)) (r s : List ℕ) → All Tidy A → All Tidy B → length A ≤ length B → text A ++ r ≡ text B ++ s →
+pub aligned : (A B : List (List Field)) (r s : List ℕ) → AllByRecursion Tidy A → AllByRecursion Tidy B → length A ≤ length B → text A ++ r ≡ text B ++ s →
     Agree A B (length A) × (r ≡ text (drop (length A) B) ++ s)
 aligned [] B r s f g l e = ((λ j k. absurd (let z : ⊥ = omega arith in z)), e)
 aligned (a ∷ A) [] r s f g l e = absurd (let z : ⊥ = omega arith in z)
@@ -47,7 +47,7 @@ none_joined [] r e = (refl, sym e)
 none_joined (b ∷ B) r e =
     absurd (let z : ⊥ = omega (arith, ap length (e ∙ spread b (text B) r), length-append (row b) (10 ∷ (text B ++ r))) in z)
 
-pub matched : (A L : List (List Field)) (rest s : List ℕ) → All Tidy A → All Tidy L → text A ++ rest ≡ text (take (length A + 1) L) ++ s → (length L < length A + 1 → s ≡ []) → Matched A L rest
+pub matched : (A L : List (List Field)) (rest s : List ℕ) → AllByRecursion Tidy A → AllByRecursion Tidy L → text A ++ rest ≡ text (take (length A + 1) L) ++ s → (length L < length A + 1 → s ≡ []) → Matched A L rest
 matched A L rest s f g e n =
     ⊎_elim
     (λ l.

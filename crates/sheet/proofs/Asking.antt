@@ -1,6 +1,6 @@
 -- Where the reading of a question stops.
 use Rattle.std.proofs.Common.{◌≡◌, ℕ, zero, suc, ◌+◌, ◌-◌, ◌^◌, ◌<◌, ◌≤◌, List, [], ◌∷◌, ◌++◌, map, length, get_or, take, replicate, sym, refl, ap, ◌∙◌, subst, inr, ⊎_elim, append_assoc, append-nil, arith}
-use Rattle.std.specs.List.{AllByRecursion as All}
+use Rattle.std.specs.List.{AllByRecursion}
 use Rattle.std.proofs.lemmas.List.{length-append, length-replicate, length-take-le, length-map, map-append, get_or-map}
 use Rattle.std.proofs.ByRecursion.{All-append, All-get_or, All-map}
 use Rattle.fabric.specs.declared.parts.Cable.{Cable}
@@ -35,46 +35,46 @@ spares (suc n) = ((omega arith, (tt, (omega arith, (tt, tt)))), spares n)
 abbrev ask : Shape → Run → List Cable → Asked
 ask x y cs = record { shape = x; run = y; cables = cs }
 
-fits_count : (x : Shape) (n : ℕ) → n < 2 ^ 32 → All (All Fits) (count_lines x n)
+fits_count : (x : Shape) (n : ℕ) → n < 2 ^ 32 → AllByRecursion (AllByRecursion Fits) (count_lines x n)
 fits_count (Mesh w h) n l = tt
 fits_count (Cabled m) n l = ((tt, (l, tt)), tt)
 
 weaker : (q : Asked) → Formed 128 q → Formed (2 ^ 32) q
 weaker q F = record { numbers = F.numbers; cycles = F.cycles; uncabled = F.uncabled; cables = omega (arith, F.cables) }
 
-tidied : (q : Asked) → Formed (2 ^ 32) q → All Tidy (lines q)
+tidied : (q : Asked) → Formed (2 ^ 32) q → AllByRecursion Tidy (lines q)
 tidied q F = tidy_lines q F.numbers
 
 none_uncabled : (x : Shape) → Uncabled x 0
 none_uncabled (Mesh w h) = refl
 none_uncabled (Cabled m) = tt
 
-formed : (x : Shape) (y : Run) (cs : List Cable) (c : ℕ) → All Fits (shape_line x) → All Fits (run_line y) → Brief y → Fitting cs → Uncabled x (length cs) → length cs ≤ c → length cs < 2 ^ 32 → Formed c (ask x y cs)
+formed : (x : Shape) (y : Run) (cs : List Cable) (c : ℕ) → AllByRecursion Fits (shape_line x) → AllByRecursion Fits (run_line y) → Brief y → Fitting cs → Uncabled x (length cs) → length cs ≤ c → length cs < 2 ^ 32 → Formed c (ask x y cs)
 formed x y cs c h k b f u l s =
     record {
-      numbers = (h, (k, All-append (All Fits) (count_lines x (length cs)) (map cable_line cs) (fits_count x (length cs) s) (All-map (All Fits) cable_line cs f)));
+      numbers = (h, (k, All-append (AllByRecursion Fits) (count_lines x (length cs)) (map cable_line cs) (fits_count x (length cs) s) (All-map (AllByRecursion Fits) cable_line cs f)));
       cycles = b;
       uncabled = u;
       cables = l;
     }
 
-formed_bare : (x : Shape) → All Fits (shape_line x) → Formed 128 (ask x spare_run [])
+formed_bare : (x : Shape) → AllByRecursion Fits (shape_line x) → Formed 128 (ask x spare_run [])
 unfolding spare_run
 formed_bare x h = formed x spare_run [] 128 h (tt, (omega arith, (omega arith, (omega arith, (omega arith, (omega arith, tt)))))) (omega arith) tt (none_uncabled x) (omega arith) (omega arith)
 
 -- the lines of a question that agrees on the layout
-module _ (x : Shape) (h : All Fits (shape_line x)) (q : Asked) (F : Formed (2 ^ 32) q) (e : row (shape_line x) ≡ row (shape_line q.shape)) where
+module _ (x : Shape) (h : AllByRecursion Fits (shape_line x)) (q : Asked) (F : Formed (2 ^ 32) q) (e : row (shape_line x) ≡ row (shape_line q.shape)) where
   alike : lines q ≡ shape_line q.shape ∷ run_line q.run ∷ (count_lines x (length q.cables) ++ map cable_line q.cables)
   alike = ap (λ A. shape_line q.shape ∷ run_line q.run ∷ (A ++ map cable_line q.cables)) (same_shape x q.shape h F.numbers.0 e (length q.cables)).0
 
   alike_uncabled : Uncabled x (length q.cables)
   alike_uncabled = (same_shape x q.shape h F.numbers.0 e (length q.cables)).1 F.uncabled
 
-  alike_fits : (m : ℕ) → x ≡ Cabled m → All Fits (cables_line (length q.cables))
-  alike_fits m y = (subst (λ A. All (All Fits) A) (alike ∙ ap (λ z. shape_line q.shape ∷ run_line q.run ∷ (count_lines z (length q.cables) ++ map cable_line q.cables)) y) F.numbers).1.1.0
+  alike_fits : (m : ℕ) → x ≡ Cabled m → AllByRecursion Fits (cables_line (length q.cables))
+  alike_fits m y = (subst (λ A. AllByRecursion (AllByRecursion Fits) A) (alike ∙ ap (λ z. shape_line q.shape ∷ run_line q.run ∷ (count_lines z (length q.cables) ++ map cable_line q.cables)) y) F.numbers).1.1.0
 
 -- a question that agrees on all the lines of another has as many
-same_length : (x : Shape) (h : All Fits (shape_line x)) (y : Run) (cs : List Cable) → Formed 128 (ask x y cs) → (p : Asked) → Formed (2 ^ 32) p → Agree (lines (ask x y cs)) (lines p) (length (lines (ask x y cs))) → length (lines p) ≡ length (lines (ask x y cs))
+same_length : (x : Shape) (h : AllByRecursion Fits (shape_line x)) (y : Run) (cs : List Cable) → Formed 128 (ask x y cs) → (p : Asked) → Formed (2 ^ 32) p → Agree (lines (ask x y cs)) (lines p) (length (lines (ask x y cs))) → length (lines p) ≡ length (lines (ask x y cs))
 same_length (Mesh w v) h y cs G p F a =
     let e = a 0 (omega arith) in
     ap length (alike (Mesh w v) h p F e) ∙ (let l = length-map p.cables cable_line in let m = length-map cs cable_line in omega (arith, alike_uncabled (Mesh w v) h p F e, G.uncabled))
@@ -86,14 +86,14 @@ same_length (Cabled n) h y cs G p F a =
 
 -- what was read of the text bs, up to s: the layout and the run, the count of cables, and the cables
 pub record Fronted (bs : List ℕ) (x : Shape) (y : Run) (s : Lines) : Type 0 where
-  pub shape : All Fits (shape_line x)
-  pub run : All Fits (run_line y)
+  pub shape : AllByRecursion Fits (shape_line x)
+  pub run : AllByRecursion Fits (run_line y)
   pub brief : Brief y
   pub over : Over (shape_line x ∷ run_line y ∷ []) bs 0 s.rest.now s.read
 
 pub record Tallied (bs : List ℕ) (x : Shape) (y : Run) (n : ℕ) (s : Lines) : Type 0 where
-  pub shape : All Fits (shape_line x)
-  pub run : All Fits (run_line y)
+  pub shape : AllByRecursion Fits (shape_line x)
+  pub run : AllByRecursion Fits (run_line y)
   pub brief : Brief y
   pub over : Over (shape_line x ∷ run_line y ∷ count_lines x n) bs 0 s.rest.now s.read
   pub uncabled : Uncabled x n
@@ -110,7 +110,7 @@ Step s g t = Lined s.rest.now (words g) t.rest.now × (g.line ≡ s.read + 1) ×
 pub shaped : (bs : List ℕ) (s t : Lines) (g : Fields) (x : Shape) → s.rest.now ≡ bs → s.read ≡ 0 → Step s g t → words g ≡ map shown (shape_line x) → Over (shape_line x ∷ []) bs 0 t.rest.now t.read
 shaped bs s t g x e z n w = over_line [] (shape_line x) bs s.rest.now t.rest.now 0 s.read t.read (words g) (over_none bs s.rest.now s.read e z) n.0 n.2 w
 
-pub fronted : (bs : List ℕ) (s t u : Lines) (g h : Fields) (x : Shape) (y : Run) → s.rest.now ≡ bs → s.read ≡ 0 → Step s g t → (words g ≡ map shown (shape_line x)) × All Fits (shape_line x) × Any x → Step t h u → (words h ≡ map shown (run_line y)) × All Fits (run_line y) × Brief y → Fronted bs x y u
+pub fronted : (bs : List ℕ) (s t u : Lines) (g h : Fields) (x : Shape) (y : Run) → s.rest.now ≡ bs → s.read ≡ 0 → Step s g t → (words g ≡ map shown (shape_line x)) × AllByRecursion Fits (shape_line x) × Any x → Step t h u → (words h ≡ map shown (run_line y)) × AllByRecursion Fits (run_line y) × Brief y → Fronted bs x y u
 fronted bs s t u g h x y e z n v m w =
     record {
       shape = v.1;
@@ -145,7 +145,7 @@ finished bs s p q a e z = (
 )
 
 module _ (bs rest : List ℕ) (j : ℕ) (f : Fault) (short : length bs ≤ 65536) (at : told f ≡ ill_formed (j + 1)) where
-  stop : (A Z : List (List Field)) (q : Asked) → Over A bs 0 rest j → Formed 128 q → lines q ≡ A ++ Z → All Tidy A → ((p : Asked) → Formed (2 ^ 32) p → Matched A (lines p) rest → ⊥) → Refused bs f
+  stop : (A Z : List (List Field)) (q : Asked) → Over A bs 0 rest j → Formed 128 q → lines q ≡ A ++ Z → AllByRecursion Tidy A → ((p : Asked) → Formed (2 ^ 32) p → Matched A (lines p) rest → ⊥) → Refused bs f
   stop A Z q o F z = halted lines A bs rest j o (Formed 128) (Formed (2 ^ 32)) f q Z short weaker tidied F z at
 
   pub no_shape : rest ≡ bs → j ≡ 0 → Barred shape_line Any rest → Refused bs f
@@ -153,13 +153,13 @@ module _ (bs rest : List ℕ) (j : ℕ) (f : Fault) (short : length bs ≤ 65536
       stop [] _ (ask (Mesh 0 0) spare_run []) (over_none bs rest j e z) (formed_bare (Mesh 0 0) (tt, (omega arith, (omega arith, tt)))) refl tt
       (λ p F m. ⊎_elim (λ i. omega (arith, i.0)) (λ i. b p.shape i.1.0 F.numbers.0 tt i.1.1) m.1)
 
-  pub no_run : (x : Shape) → All Fits (shape_line x) → Over (shape_line x ∷ []) bs 0 rest j → Barred run_line Brief rest → Refused bs f
+  pub no_run : (x : Shape) → AllByRecursion Fits (shape_line x) → Over (shape_line x ∷ []) bs 0 rest j → Barred run_line Brief rest → Refused bs f
   no_run x h o b =
       stop (shape_line x ∷ []) _ (ask x spare_run []) o (formed_bare x h) refl (tidy_shape x h, tt)
       (λ p F m. ⊎_elim (λ i. omega (arith, i.0)) (λ i. b p.run i.1.0 F.numbers.1.0 F.cycles i.1.1) m.1)
 
 -- a cabled layout's count or cable is missing
-module _ (bs rest : List ℕ) (j : ℕ) (f : Fault) (short : length bs ≤ 65536) (m : ℕ) (h : All Fits (shape_line (Cabled m))) (y : Run) (k : All Fits (run_line y)) (c : Brief y) where
+module _ (bs rest : List ℕ) (j : ℕ) (f : Fault) (short : length bs ≤ 65536) (m : ℕ) (h : AllByRecursion Fits (shape_line (Cabled m))) (y : Run) (k : AllByRecursion Fits (run_line y)) (c : Brief y) where
   no_count : Over (shape_line (Cabled m) ∷ run_line y ∷ []) bs 0 rest j → told f ≡ ill_formed (j + 1) → Barred cables_line Any rest → Refused bs f
   no_count o at b =
       stop bs rest j f short at (shape_line (Cabled m) ∷ run_line y ∷ []) _ (ask (Cabled m) y []) o (formed (Cabled m) y [] 128 h k c tt tt (omega arith) (omega arith)) refl (tidy_shape (Cabled m) h, (tidy_run y k, tt))
@@ -170,7 +170,7 @@ module _ (bs rest : List ℕ) (j : ℕ) (f : Fault) (short : length bs ≤ 65536
       (λ i. b (length p.cables) i.1.0 (alike_fits (Cabled m) h p F e m refl) tt i.1.1)
       (subst (λ A. Next A 2 rest) (alike (Cabled m) h p F e) n.1))
 
-  over_count : (n : ℕ) (more : List ℕ) → Over (shape_line (Cabled m) ∷ run_line y ∷ []) bs 0 rest j → told f ≡ too_many (j + 1) → rest ≡ written (cables_line n) ++ more → All Fits (cables_line n) → 128 < n → Refused bs f
+  over_count : (n : ℕ) (more : List ℕ) → Over (shape_line (Cabled m) ∷ run_line y ∷ []) bs 0 rest j → told f ≡ too_many (j + 1) → rest ≡ written (cables_line n) ++ more → AllByRecursion Fits (cables_line n) → 128 < n → Refused bs f
   over_count n more o at w g l =
       let A = shape_line (Cabled m) ∷ run_line y ∷ [] in
       let r = length-replicate n spare in
@@ -209,11 +209,11 @@ module _ (bs rest : List ℕ) (j : ℕ) (f : Fault) (short : length bs ≤ 65536
   no_cable n cs o at u l g b =
       let R = replicate (n - length cs) spare in
       let full : length (cs ++ R) ≡ n = length-append cs R ∙ (let z = length-replicate (n - length cs) spare in omega arith) in
-      let fits : All Fits (cables_line n) = (tt, (omega arith, tt)) in
+      let fits : AllByRecursion Fits (cables_line n) = (tt, (omega arith, tt)) in
       stop bs rest j f short at (shape_line (Cabled m) ∷ run_line y ∷ cables_line n ∷ map cable_line cs) (map cable_line R) (ask (Cabled m) y (cs ++ R)) o
-      (formed (Cabled m) y (cs ++ R) 128 h k c (All-append (λ x. All Fits (cable_line x)) cs R g (spares (n - length cs))) tt (omega arith) (omega arith))
+      (formed (Cabled m) y (cs ++ R) 128 h k c (All-append (λ x. AllByRecursion Fits (cable_line x)) cs R g (spares (n - length cs))) tt (omega arith) (omega arith))
       (ap (λ i. shape_line (Cabled m) ∷ run_line y ∷ cables_line i ∷ map cable_line (cs ++ R)) full ∙ ap (λ B. shape_line (Cabled m) ∷ run_line y ∷ cables_line n ∷ B) (map-append cable_line cs R))
-      (tidy_shape (Cabled m) h, (tidy_run y k, tidy_rest (Cabled m) n cs (fits, All-map (All Fits) cable_line cs g)))
+      (tidy_shape (Cabled m) h, (tidy_run y k, tidy_rest (Cabled m) n cs (fits, All-map (AllByRecursion Fits) cable_line cs g)))
       (λ p F M.
       let e = M.0 0 (omega arith) in
       let a = alike (Cabled m) h p F e in
@@ -227,7 +227,7 @@ module _ (bs rest : List ℕ) (j : ℕ) (f : Fault) (short : length bs ≤ 65536
       (λ z. omega (arith, z.0))
       (λ z.
       b (get_or p.cables i spare) z.1.0
-      (subst (All Fits) line (All-get_or (All Fits) ps i [] (omega arith) (subst (All (All Fits)) a F.numbers).1.1.1))
+      (subst (AllByRecursion Fits) line (All-get_or (AllByRecursion Fits) ps i [] (omega arith) (subst (AllByRecursion (AllByRecursion Fits)) a F.numbers).1.1.1))
       tt
       (z.1.1 ∙ ap (λ v. written v ++ z.1.0) line))
       (subst (λ A. Next A (suc (suc (suc i))) rest) a M.1))

@@ -1,6 +1,6 @@
 -- The exit of a `?` in the reading of a line, and the fields that follow those read.
 use Rattle.std.proofs.Common.{◌≡◌, ℕ, List, ◌∷◌, ◌++◌, map, get_or, drop, Err, Result, sym, ap, ◌∙◌, subst, MatchResult}
-use Rattle.std.specs.List.{AllByRecursion as All}
+use Rattle.std.specs.List.{AllByRecursion}
 use Rattle.sheet.specs.Texts.{Field, Fits, shown}
 use Rattle.sheet.specs.Fields.{Reads, Begins}
 use Rattle.sheet.specs.Faults.{told, ill_formed}
@@ -15,11 +15,11 @@ err_at P Q r f p q = subst (λ x. MatchResult x P Q) (sym p.1) (subst Q (sym p.2
 
 -- and no value has the words
 pub passed : {A : Type 0} (line : A → List Field) (P : A → Type 0) (ws : List (List ℕ)) (k : ℕ) (r : Result A Fault) (f : Fault) →
-    Passes r f → told f ≡ ill_formed k → ((x : A) → All Fits (line x) → P x → ws ≡ map shown (line x) → ⊥) → Reads line P ws k r
+    Passes r f → told f ≡ ill_formed k → ((x : A) → AllByRecursion Fits (line x) → P x → ws ≡ map shown (line x) → ⊥) → Reads line P ws k r
 passed line P ws k r f p at none = err_at _ _ r f p (at, none)
 
 pub opened : {A : Type 0} (part : A → List Field) (ws more : List (List ℕ)) (k : ℕ) (r : Result A Fault) (f : Fault) →
-    Passes r f → told f ≡ ill_formed k → ((x : A) (vs : List (List ℕ)) → All Fits (part x) → ws ≡ map shown (part x) ++ vs → ⊥) → Begins part ws more k r
+    Passes r f → told f ≡ ill_formed k → ((x : A) (vs : List (List ℕ)) → AllByRecursion Fits (part x) → ws ≡ map shown (part x) ++ vs → ⊥) → Begins part ws more k r
 opened part ws more k r f p at none = err_at _ _ r f p (at, none)
 
 -- what follows the first of a list

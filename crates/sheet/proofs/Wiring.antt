@@ -1,6 +1,6 @@
 -- The lines of the cables, and the line of their count.
 use Rattle.std.proofs.Common.{◌≡◌, ℕ, ◌+◌, ◌<◌, List, [], map, length, take, set, Ok, Err, Result, sym, refl, ap, ◌∙◌, subst, inl, inr, ⊎_elim, arith}
-use Rattle.std.specs.List.{AllByRecursion as All}
+use Rattle.std.specs.List.{AllByRecursion}
 use Rattle.std.proofs.lemmas.List.{length-take-le, take_more_set, map_push}
 use Rattle.std.proofs.ByRecursion.{All-push}
 use Rattle.fabric.specs.declared.parts.Cable.{Cable}
@@ -35,8 +35,8 @@ module _ (s t : Lines) (cs : List Cable) (i : ℕ) (l : i < length cs) (o : Betw
       subst (λ A. Between A s u) (sym (map_push cable_line (take i cs) x) ∙ ap (map cable_line) (sym (take_more_set cs i x l)))
       (over_line (map cable_line (take i cs)) (cable_line x) _ _ _ _ _ _ ws o n e w)
 
-  pub more_fitting : (x : Cable) → All Fits (cable_line x) → Fitting (take i cs) → Fitting (take (i + 1) (set cs i x))
-  more_fitting x h f = subst Fitting (sym (take_more_set cs i x l)) (All-push (λ c. All Fits (cable_line c)) (take i cs) x f h)
+  pub more_fitting : (x : Cable) → AllByRecursion Fits (cable_line x) → Fitting (take i cs) → Fitting (take (i + 1) (set cs i x))
+  more_fitting x h f = subst Fitting (sym (take_more_set cs i x l)) (All-push (λ c. AllByRecursion Fits (cable_line c)) (take i cs) x f h)
 
   -- no cable follows
   pub unwired : (n : ℕ) (f : Fault) → i < n → Fitting (take i cs) → told f ≡ ill_formed (t.read + 1) → Barred cable_line Any t.rest.now → Unwired n s f

@@ -1,6 +1,6 @@
 -- A question, and its one text.
 use Rattle.std.specs.Prelude.{◌≡◌, ℕ, ◌^◌, ◌≤◌, List, [], ◌∷◌, ◌++◌, map, length, take, codes}
-use Rattle.std.specs.List.{AllByRecursion as All}
+use Rattle.std.specs.List.{AllByRecursion}
 use Rattle.fabric.specs.Ports.{letter}
 use Rattle.fabric.specs.declared.parts.Slot.{Slot}
 use Rattle.fabric.specs.declared.parts.Cable.{Cable}
@@ -56,7 +56,7 @@ Uncabled (Cabled m) n = Unit {0}
 
 -- the question is of its form, with at most c cables
 pub record Formed (c : ℕ) (q : Asked) : Type 0 where
-  pub numbers : All (All Fits) (lines q)
+  pub numbers : AllByRecursion (AllByRecursion Fits) (lines q)
   pub cycles : Brief q.run
   pub uncabled : Uncabled q.shape (length q.cables)
   pub cables : length q.cables ≤ c

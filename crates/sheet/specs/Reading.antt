@@ -1,6 +1,6 @@
 -- What the parts of a question's reader answer.
 use Rattle.std.specs.Prelude.{◌≡◌, ℕ, ◌+◌, ◌<◌, ◌≤◌, ◌⊎◌, List, ◌++◌, map, length, take, Result, MatchResult}
-use Rattle.std.specs.List.{AllByRecursion as All}
+use Rattle.std.specs.List.{AllByRecursion}
 use Rattle.fabric.specs.declared.parts.Cable.{Cable}
 use Rattle.sheet.specs.Texts.{Field, Fits, written, text, Barred, Any}
 use Rattle.sheet.specs.Faults.{told, ill_formed, too_many}
@@ -23,7 +23,7 @@ abbrev pub Miscounted : Shape → Lines → Fault → Type 0
 Miscounted (Mesh w h) s f = ⊥
 Miscounted (Cabled m) s f =
     ((told f ≡ ill_formed (s.read + 1)) × Barred cables_line Any s.rest.now)
-    ⊎ ((told f ≡ too_many (s.read + 1)) × ((n : ℕ) × (more : List ℕ) × (s.rest.now ≡ written (cables_line n) ++ more) × All Fits (cables_line n) × (128 < n)))
+    ⊎ ((told f ≡ too_many (s.read + 1)) × ((n : ℕ) × (more : List ℕ) × (s.rest.now ≡ written (cables_line n) ++ more) × AllByRecursion Fits (cables_line n) × (128 < n)))
 
 -- the count of the layout's cables
 abbrev pub Counted : Shape → Lines → Lines → Result ℕ Fault → Type 0
@@ -31,7 +31,7 @@ Counted x s t r = MatchResult r (λ n. Between (count_lines x n) s t × Uncabled
 
 -- the nodes that the cables name fit 32 bits
 abbrev pub Fitting : List Cable → Type 0
-Fitting cs = All (λ c. All Fits (cable_line c)) cs
+Fitting cs = AllByRecursion (λ c. AllByRecursion Fits (cable_line c)) cs
 
 -- fewer than n cables stand in the lines, and no cable follows
 abbrev pub Unwired : ℕ → Lines → Fault → Type 0

@@ -1,6 +1,6 @@
 -- How numbers, words and lines are written as bytes.
 use Rattle.std.specs.Prelude.{◌≡◌, ℕ, ◌^◌, ◌<◌, cond, List, [], ◌∷◌, ◌++◌, map, decimal, ◌==◌, ◌≢◌}
-use Rattle.std.specs.List.{AllByRecursion as All, flat_map}
+use Rattle.std.specs.List.{AllByRecursion, flat_map}
 
 -- a field of a line: a word as it stands, or a number
 pub data Field : Type 0 where
@@ -43,7 +43,7 @@ parted b (x ∷ xs) = cond (x == b) ([] ∷ parted b xs) (onto x (parted b xs))
 
 -- b does not stand in w
 abbrev pub Free : ℕ → List ℕ → Type 0
-Free b w = All (λ x. x ≢ b) w
+Free b w = AllByRecursion (λ x. x ≢ b) w
 
 -- the text begins with a line, of which these are the words, and `more` follows it
 abbrev pub Lined : List ℕ → List (List ℕ) → List ℕ → Type 0
@@ -55,4 +55,4 @@ Any x = Unit {0}
 
 -- the text begins with no line of the kind
 abbrev pub Barred : {X : Type 0} → (X → List Field) → (X → Type 0) → List ℕ → Type 0
-Barred {X} line P t = (x : X) (more : List ℕ) → All Fits (line x) → P x → t ≢ written (line x) ++ more
+Barred {X} line P t = (x : X) (more : List ℕ) → AllByRecursion Fits (line x) → P x → t ≢ written (line x) ++ more

@@ -1,6 +1,6 @@
 -- How long the lines of a listing are at most.
 use Rattle.std.proofs.Common.{ℕ, ◌*◌, ◌/◌, ◌^◌, ◌<◌, ◌≤◌, List, [], ◌∷◌, map, length, IfSome, Some, None, codes, Option, arith}
-use Rattle.std.specs.List.{AllByRecursion as All}
+use Rattle.std.specs.List.{AllByRecursion}
 use Rattle.std.proofs.lemmas.Fmt.{length-decimal-le}
 use Rattle.runsheet.specs.Texts.{word, number, written}
 use Rattle.writer.specs.Listings.{event_line, done_line, no_line, end_line, mean_word}
@@ -29,11 +29,11 @@ length_no c r n o hc hr hn ho =
       digits_ten o ho,
     )
 
-spread_words : (ws : List ℕ) → All (λ w. w < 2 ^ 32) ws → spread (figures ws) ≤ 11 * length ws
+spread_words : (ws : List ℕ) → AllByRecursion (λ w. w < 2 ^ 32) ws → spread (figures ws) ≤ 11 * length ws
 spread_words [] h = omega arith
 spread_words (w ∷ ws) h = let a = spread_words ws h.1 in let b = digits_ten w h.0 in omega arith
 
-pub length_done : (c t : ℕ) (ws : List ℕ) → c < 65536 → t < 1000 → length ws ≤ 4 → All (λ w. w < 2 ^ 32) ws → length (written (done_line c t ws)) ≤ 60
+pub length_done : (c t : ℕ) (ws : List ℕ) → c < 65536 → t < 1000 → length ws ≤ 4 → AllByRecursion (λ w. w < 2 ^ 32) ws → length (written (done_line c t ws)) ≤ 60
 length_done c t ws hc ht l h =
     omega (
       arith,

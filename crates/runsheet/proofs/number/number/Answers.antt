@@ -3,14 +3,14 @@ use Rattle.std.specs.Str.Parse.{digits_value, AllDigits}
 use Rattle.std.proofs.lemmas.List.{take_all}
 use Rattle.runsheet.proofs.Numbers.{unwritten, written, value_step, digits_step, power_step, no_digit}
 use Rattle.runsheet.proofs.number.number.Goals as goal
-use Rattle.runsheet.proofs.number.number.Goals.{then-word-eq0-via-then-word-eq0, then-word-eq0-via-else-word-eq0+then-word-gt-MOST-DIGITS, then-b-lt48-via-then-b-lt48, then-b-lt48-via-else-b-lt48+then-b-gt57}
+use Rattle.runsheet.proofs.number.number.Goals.{then-word-eq0-via-then-word-eq0, then-word-eq0-via-else-word-eq0+then-word-gt-MOST_DIGITS, then-b-lt48-via-then-b-lt48, then-b-lt48-via-else-b-lt48+then-b-gt57}
 
 pub returns-then-word-eq0 : goal.returns-then-word-eq0
 returns-then-word-eq0 c = (
   c.ill_formed.ensures,
   unwritten c.args.word.now (λ n h w. elim c.then-word-eq0.branch [
     | then-word-eq0-via-then-word-eq0 v ↦ omega (arith, w.some)
-    | then-word-eq0-via-else-word-eq0+then-word-gt-MOST-DIGITS v ↦ omega (arith, w.short)
+    | then-word-eq0-via-else-word-eq0+then-word-gt-MOST_DIGITS v ↦ omega (arith, w.short)
   ]),
 )
 

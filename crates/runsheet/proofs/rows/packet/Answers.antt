@@ -1,5 +1,5 @@
 use Rattle.std.proofs.Common.{◌≤◌, [], ◌∷◌, map, take, decimal, sym, ap, ◌∙◌, subst, arith}
-use Rattle.std.specs.List.{AllByRecursion as All}
+use Rattle.std.specs.List.{AllByRecursion}
 use Rattle.std.proofs.lemmas.Result.{err_from_is_err_and}
 use Rattle.runsheet.specs.Faults.{ill_formed}
 use Rattle.runsheet.specs.Texts.{Fits, number}
@@ -52,7 +52,7 @@ returns-in_err-words c =
     (c.in_err-words.ensures.words.0 ∙ ap ill_formed (c.in_ok-count.ensures.line ∙ c.in_ok-destination.ensures.line ∙ c.in_ok-own.ensures.line ∙ c.in_ok-node.ensures.line ∙ c.in_ok-cycle.ensures.line))
     (λ x fits p e.
     let s = same_front _ _ _ _ _ _ _ _ _ _ _ x c.in_ok-cycle.ensures.words.1 c.in_ok-node.ensures.words.1 c.in_ok-own.ensures.words.1 c.in_ok-destination.ensures.words.1 c.in_ok-count.ensures.words.1 c.in_ok-cycle.ensures.words.0 c.in_ok-count.ensures.words.0 fits e in
-    c.in_err-words.ensures.words.1 x.words [] (subst (λ k. All Fits (map number (take k x.words))) (sym s.1) fits.1.1.1.1.1) p.0.places (figures_only _ _ s.2))
+    c.in_err-words.ensures.words.1 x.words [] (subst (λ k. AllByRecursion Fits (map number (take k x.words))) (sym s.1) fits.1.1.1.1.1) p.0.places (figures_only _ _ s.2))
 
 pub returns-in_err-end : goal.returns-in_err-end
 returns-in_err-end c =

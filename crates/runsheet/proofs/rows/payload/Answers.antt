@@ -3,7 +3,6 @@ use Rattle.std.proofs.lemmas.List.{length-set}
 use Rattle.std.proofs.lemmas.Result.{err_from_is_err_and}
 use Rattle.runsheet.specs.Faults.{ill_formed}
 use Rattle.runsheet.specs.Texts.{number}
-use Rattle.runsheet.specs.Fields.{words}
 use Rattle.runsheet.proofs.Exits.{opened}
 use Rattle.runsheet.proofs.Payload.{figures, figures_more, fits_more, figures_next, fits_at}
 use Rattle.runsheet.proofs.rows.payload.Goals as goal

@@ -1,5 +1,5 @@
 use Rattle.std.proofs.Common.{◌≡◌, ◌++◌, map, length, take}
-use Rattle.std.specs.List.{AllByRecursion as All}
+use Rattle.std.specs.List.{AllByRecursion}
 use Rattle.runsheet.specs.Texts.{Fits, number, shown}
 use Rattle.runsheet.specs.Fields.{words}
 use Rattle.runsheet.proofs.rows.payload.Given as goal
@@ -7,6 +7,6 @@ use Rattle.runsheet.proofs.rows.payload.Given as goal
 abbrev pub invariant-loop-i : goal.invariant-loop-i
 invariant-loop-i l =
     (words l.initial.fields ≡ map shown (map number (take l.i l.words)) ++ words l.fields)
-    × All Fits (map number (take l.i l.words))
+    × AllByRecursion Fits (map number (take l.i l.words))
     × (length l.words ≡ 4)
     × (l.fields.line ≡ l.initial.fields.line)

@@ -1,5 +1,5 @@
 use Rattle.std.proofs.Common.{subst}
-use Rattle.std.specs.List.{AllByRecursion as All}
+use Rattle.std.specs.List.{AllByRecursion}
 use Rattle.runsheet.specs.Texts.{Fits}
 use Rattle.runsheet.specs.Reading.{draft, entry_line, Suits, Within}
 use Rattle.runsheet.proofs.Moves.{short, entered, put_cables, put_cable, put_packets, put_packet}
@@ -29,7 +29,7 @@ pub returns-in-Cable : goal.returns-in-Cable
 returns-in-Cable c =
     let r = c.args.self.now in
     let x = c.in-Cable.cable in
-    let h = subst (λ e. All Fits (entry_line e)) c.in-Cable.is c.requires.suits.0 in
+    let h = subst (λ e. AllByRecursion Fits (entry_line e)) c.in-Cable.is c.requires.suits.0 in
     let u = subst (Suits (draft r)) c.in-Cable.is c.requires.suits.1 in
     entered r _ _ _ _ c.in-Cable.is c.go_cables-in-Cable.ensures (put_cable r c.requires.sound x u h)
 
@@ -45,6 +45,6 @@ pub returns-in-Packet : goal.returns-in-Packet
 returns-in-Packet c =
     let r = c.args.self.now in
     let x = c.in-Packet.packet in
-    let h = subst (λ e. All Fits (entry_line e)) c.in-Packet.is c.requires.suits.0 in
+    let h = subst (λ e. AllByRecursion Fits (entry_line e)) c.in-Packet.is c.requires.suits.0 in
     let u = subst (Suits (draft r)) c.in-Packet.is c.requires.suits.1 in
     entered r _ _ _ _ c.in-Packet.is c.go_packets-in-Packet.ensures (put_packet r c.requires.sound x u h)

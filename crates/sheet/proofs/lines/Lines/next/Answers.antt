@@ -12,4 +12,4 @@ returns c =
     let rest = c.args.self.now.rest.now in
     let end = c.find-end.result in
     let l : end < length rest = omega (arith, c.find-end.ensures.within, c.if-end-rest.false) in
-    (lined rest end _ l c.find-end.ensures.before (c.find-end.ensures.found l) c.new.ensures.words, c.new.ensures.line, refl)
+    (lined rest end _ l c.find-end.ensures.before (c.find-end.ensures.found l) c.new.ensures.words, omega (arith, c.new.ensures.line), refl)

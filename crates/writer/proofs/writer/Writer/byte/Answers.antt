@@ -7,7 +7,7 @@ pub bounds-self-self : goal.bounds-self-self
 bounds-self-self c = at_room c.args.self.now c.requires
 
 pub invariant_of-self : goal.invariant_of-self
-invariant_of-self c = (omega (arith, at_room c.args.self.now c.requires, length-set c.args.self.now.memory.now c.args.self.now.len c.args.b), tt)
+invariant_of-self c = record { fits = omega (arith, at_room c.args.self.now c.requires, length-set c.args.self.now.memory.now c.args.self.now.len c.args.b) }
 
 pub returns : goal.returns
 returns c =
