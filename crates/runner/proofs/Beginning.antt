@@ -1,6 +1,6 @@
 -- A session whose network was just set up.
 use Rattle.std.proofs.Common.{◌≡◌, ℕ, zero, suc, ◌+◌, List, [], ◌∷◌, ◌++◌, map, get_or, replicate, None, Option, sym, refl, ◌∙◌, subst, ap₂, subst₂, arith}
-use Rattle.std.specs.List.{AllByRecursion as All}
+use Rattle.std.specs.List.{AllByRecursion}
 use Rattle.bounds.specs.declared.settings.Settings.{Settings}
 use Rattle.fabric.specs.Verdicts.Verdict.{granted}
 use Rattle.bounds.specs.SetUp.{set_up_verdict}
@@ -50,11 +50,11 @@ at_first {F} {P} {i} {w} b h =
       few = omega arith;
     }
 
-all_after : {X : Type 0} (Q : X → Type 0) (xs ys : List X) → All Q (xs ++ ys) → All Q ys
+all_after : {X : Type 0} (Q : X → Type 0) (xs ys : List X) → AllByRecursion Q (xs ++ ys) → AllByRecursion Q ys
 all_after Q [] ys h = h
 all_after Q (x ∷ xs) ys h = all_after Q xs ys h.1
 
-sendable : (ps : List Packet) → All Sized ps → All (All Fits) (map packet_line ps) → All Sendable ps
+sendable : (ps : List Packet) → AllByRecursion Sized ps → AllByRecursion (AllByRecursion Fits) (map packet_line ps) → AllByRecursion Sendable ps
 sendable [] s n = tt
 sendable (p ∷ ps) s n = (record { sized = s.0; numbers = n.0 }, sendable ps s.1 n.1)
 
@@ -63,7 +63,7 @@ pub all_left : (s : Said) → Formed 128 256 s → Left 0 s.packets
 all_left s f =
     record {
       rising = f.rising;
-      sendable = sendable s.packets f.sized (all_after (All Fits) (map cable_line s.cables) _ f.numbers.1.1.1.1).1;
+      sendable = sendable s.packets f.sized (all_after (AllByRecursion Fits) (map cable_line s.cables) _ f.numbers.1.1.1.1).1;
     }
 
 -- a run that was played, for the sheet that it is of

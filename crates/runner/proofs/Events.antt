@@ -1,6 +1,6 @@
 -- The events of a run: how many they are, and what they can hold.
 use Rattle.std.proofs.Common.{◌≡◌, ℕ, zero, suc, ◌+◌, ◌<◌, ◌≤◌, List, [], ◌∷◌, ◌++◌, Some, None, Option, refl, subst, arith}
-use Rattle.std.specs.List.{AllByRecursion as All}
+use Rattle.std.specs.List.{AllByRecursion}
 use Rattle.std.proofs.ByRecursion.{All-append}
 use Rattle.fabric.specs.declared.parts.Flit.{Flit}
 use Rattle.fabric.specs.declared.parts.Port.{Port}
@@ -80,8 +80,8 @@ alike (off f n c ∷ m) l h = let a = alike m l h in record { free = a.free; pac
 alike (collected t r ws ∷ m) l h = absurd h
 
 module _ (F : Fabric) (P : Settings) (s : State) (i : Inv F P s 0) (nodes : F.plan.nodes ≤ 64) (tickets : all_tickets F.plan P ≤ 512) (words : P.words ≤ 4) (early : s.cycles < 65536) where
-  small_off : (n : ℕ) → n < F.plan.nodes → (o : Option (Port × Flit)) → Takes (golden_in F P s.cycles) n (s.slot n) o → (l : Log) → All Small (told l) →
-      All Small (told (off_at s.cycles n o ++ l))
+  small_off : (n : ℕ) → n < F.plan.nodes → (o : Option (Port × Flit)) → Takes (golden_in F P s.cycles) n (s.slot n) o → (l : Log) → AllByRecursion Small (told l) →
+      AllByRecursion Small (told (off_at s.cycles n o ++ l))
   small_off n e None t l h = h
   small_off n e (Some b) t l h =
       let z = i.sits n b.0 b.1 t.0.0 in
@@ -97,8 +97,8 @@ module _ (F : Fabric) (P : Settings) (s : State) (i : Inv F P s 0) (nodes : F.pl
         tt,
       )
 
-  small_in : (n : ℕ) → n < F.plan.nodes → (places : Places) (o : Option (Port × Flit)) → LetsIn P s n places o → (l : Log) → All Small (told l) →
-      All Small (told (entered_at n o ++ l))
+  small_in : (n : ℕ) → n < F.plan.nodes → (places : Places) (o : Option (Port × Flit)) → LetsIn P s n places o → (l : Log) → AllByRecursion Small (told l) →
+      AllByRecursion Small (told (entered_at n o ++ l))
   small_in n e places None t l h = h
   small_in n e places (Some b) t l h =
       let f = b.1 in
@@ -117,12 +117,12 @@ module _ (F : Fabric) (P : Settings) (s : State) (i : Inv F P s 0) (nodes : F.pl
         tt,
       )
 
-  small_news : (work : ℕ → Work) → ((n : ℕ) → n < F.plan.nodes → Works F P s n (work n)) → (n : ℕ) → n ≤ F.plan.nodes → All Small (told (news s.cycles work n))
+  small_news : (work : ℕ → Work) → ((n : ℕ) → n < F.plan.nodes → Works F P s n (work n)) → (n : ℕ) → n ≤ F.plan.nodes → AllByRecursion Small (told (news s.cycles work n))
   small_news work works zero h = tt
   small_news work works (suc n) h =
       let w = works n h in
       small_in n h _ (work n).entry w.lets_in _ (small_off n h (work n).off w.takes_off _ (small_news work works n (omega arith)))
 
   -- what a cycle tells
-  pub small_told : {r : State} (c : Cycle F P s r) → All Small (told (happened c))
+  pub small_told : {r : State} (c : Cycle F P s r) → AllByRecursion Small (told (happened c))
   small_told c = small_news c.work (λ n e. c.works n e) F.plan.nodes (omega arith)

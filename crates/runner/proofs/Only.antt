@@ -1,7 +1,7 @@
 -- A run has one listing: each part of a run is computed from the state before it, and so is the listing.
 use Rattle.std.proofs.Common.{◌≡◌, ℕ, zero, suc, ◌<◌, cond, eqb, List, [], ◌∷◌, ◌++◌, map, take, sym, refl, ap, ◌∙◌, ap₂, append-nil, add-one, arith}
 use mathlib.Core.List.{append_cancel_right}
-use Rattle.std.specs.List.{AllByRecursion as All}
+use Rattle.std.specs.List.{AllByRecursion}
 use Rattle.std.proofs.lemmas.Bool.{eq-eqb, ne_eqb, cond-true, cond-false}
 use Rattle.fabric.specs.Layouts.{Lawful}
 use Rattle.fabric.specs.Verdicts.Verdict.{granted, refused}
@@ -43,13 +43,13 @@ later_in c [] = []
 later_in c (p ∷ ps) = cond (eqb p.cycle c) (later_in c ps) (p ∷ ps)
 
 module _ (c : ℕ) where
-  none_due : (later : List Packet) → All (λ p. c < p.cycle) later → (due_in c later ≡ []) × (later_in c later ≡ later)
+  none_due : (later : List Packet) → AllByRecursion (λ p. c < p.cycle) later → (due_in c later ≡ []) × (later_in c later ≡ later)
   none_due [] h = (refl, refl)
   none_due (p ∷ ps) h =
       let e = ne_eqb p.cycle c (λ k. let l = h.0 in omega arith) in
       (cond-false _ _ _ e, cond-false _ _ _ e)
 
-  parted : (due later : List Packet) → All (λ p. p.cycle ≡ c) due → All (λ p. c < p.cycle) later → (due_in c (due ++ later) ≡ due) × (later_in c (due ++ later) ≡ later)
+  parted : (due later : List Packet) → AllByRecursion (λ p. p.cycle ≡ c) due → AllByRecursion (λ p. c < p.cycle) later → (due_in c (due ++ later) ≡ due) × (later_in c (due ++ later) ≡ later)
   parted [] later d l = none_due later l
   parted (p ∷ ps) later d l =
       let e = eq-eqb p.cycle c d.0 in

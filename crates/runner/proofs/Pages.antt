@@ -1,7 +1,7 @@
 -- The bytes of lines, and what a writer has when they are written.
 use Rattle.std.proofs.Common.{◌≡◌, ℕ, ◌+◌, ◌*◌, ◌≤◌, List, [], ◌∷◌, ◌++◌, map, length, drop, sym, refl, ap, ◌∙◌, append_assoc, append-nil, arith}
 use Rattle.std.proofs.lemmas.List.{length-append, length-drop, drop-drop}
-use Rattle.std.specs.List.{AllByRecursion as All}
+use Rattle.std.specs.List.{AllByRecursion}
 use Rattle.network.specs.declared.event.Event.{Event}
 use Rattle.network.specs.declared.event.Kind.{Kind}
 use Rattle.network.specs.declared.event.Kind.TheVariants.{In, Out}
@@ -48,7 +48,7 @@ wrote {w} {w'} {M} ls more e r h a =
     }
 
 -- the lines of events
-pub text_short : (es : List Event) → All Small es → length (text (map line_of es)) ≤ 20 * (ins es + outs es)
+pub text_short : (es : List Event) → AllByRecursion Small es → length (text (map line_of es)) ≤ 20 * (ins es + outs es)
 text_short [] h = omega arith
 text_short (e ∷ es) h =
     let z = text_short es h.1 in

@@ -1,6 +1,6 @@
 -- The calls of a session, by what the network's own calls bring.
 use Rattle.std.proofs.Common.{◌≡◌, ℕ, ◌+◌, ◌*◌, ◌/◌, ◌%◌, ◌^◌, ◌<◌, ◌≤◌, Bool, true, false, cond, eqb, List, [], ◌∷◌, ◌++◌, map, length, get_or, take, set, IfSome, Some, None, Ok, Result, sym, refl, ap, ◌∙◌, subst, ap₂, subst₂, append-nil, div-le_self, arith}
-use Rattle.std.specs.List.{AllByRecursion as All}
+use Rattle.std.specs.List.{AllByRecursion}
 use Rattle.std.proofs.lemmas.List.{length-append, length-take-le}
 use Rattle.fabric.specs.declared.refusal.Refusal.{Refusal}
 use Rattle.fabric.specs.declared.refusal.Refusal.TheVariants.{Limits, Epoch, Seed, Missing, Destination, Words, NotFree, NotComplete, Memory, Cycles, Room, Nodes, Cable, Unreached, Length, Form, Count, Full}
@@ -63,7 +63,7 @@ number_small Form = omega arith
 number_small Count = omega arith
 number_small Full = omega arith
 
-all_fit : (ws : List ℕ) → All Fits (map number ws) → All (λ v. v < 2 ^ 32) ws
+all_fit : (ws : List ℕ) → AllByRecursion Fits (map number ws) → AllByRecursion (λ v. v < 2 ^ 32) ws
 all_fit [] h = tt
 all_fit (w ∷ ws) h = (h.0, all_fit ws h.1)
 

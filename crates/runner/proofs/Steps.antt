@@ -1,6 +1,6 @@
 -- What each call of a sheet's run brings: the state after it, and the lines that are written of it.
 use Rattle.std.proofs.Common.{◌≡◌, ℕ, zero, suc, ◌+◌, ◌*◌, ◌/◌, ◌%◌, ◌^◌, ◌<◌, ◌≤◌, Bool, true, false, cond, not, ◌||◌, eqb, ltb, leb, ◌⊎◌, List, [], ◌∷◌, ◌++◌, map, length, get_or, take, drop, set, Some, None, Option, sym, refl, ap, ◌∙◌, subst, ap₂, inl, inr, arith}
-use Rattle.std.specs.List.{AllByRecursion as All}
+use Rattle.std.specs.List.{AllByRecursion}
 use Rattle.std.proofs.lemmas.Nat.{div_below, mod_below, div-add-mod'}
 use Rattle.std.proofs.lemmas.List.{length-append, length-set, get_or-set_same, get_or-set_other, take-append-le, take_all}
 use Rattle.std.proofs.lemmas.Bool.{cases_eq, eq-eqb, ne_eqb, or_parts, or_from, leb-false, lt-leb, le-ltb, not-false, not_from_true, cond-false}
@@ -51,7 +51,7 @@ pub record Moved (F : Fabric) (P : Settings) (j : Tables) (s : State) (k : Call)
   pub kept : Kept F P run state
 
 -- what is known of each packet that was accepted
-narrow_at : (newer older : Log) (u : ℕ) (p : Load) → Narrow (newer ++ (offered u p ∷ older)) → (length p.words ≤ 4) × All (λ v. v < 2 ^ 32) p.words
+narrow_at : (newer older : Log) (u : ℕ) (p : Load) → Narrow (newer ++ (offered u p ∷ older)) → (length p.words ≤ 4) × AllByRecursion (λ v. v < 2 ^ 32) p.words
 narrow_at [] older u p h = (h.0, h.1)
 narrow_at (offered x q ∷ l) older u p h = narrow_at l older u p h.2
 narrow_at (entered f n ∷ l) older u p h = narrow_at l older u p h
@@ -190,7 +190,7 @@ module _ (F : Fabric) (P : Settings) (law : Lawful F.plan) {M : List ℕ} {i : T
       let ex = own_exists n m d ws (offer_did (moved p).serves).0 in
       own_ticket F.plan law P sizes.few n m ex.0 ex.1
 
-  pub offered_at : {j : Tables} (n m d : ℕ) (ws : List ℕ) → Promised F i j (offer n m d ws) (offering (granted tt)) → o < 256 → length ws ≤ 4 → All (λ v. v < 2 ^ 32) ws →
+  pub offered_at : {j : Tables} (n m d : ℕ) (ws : List ℕ) → Promised F i j (offer n m d ws) (offering (granted tt)) → o < 256 → length ws ≤ 4 → AllByRecursion (λ v. v < 2 ^ 32) ws →
       (r : State) × Serves F P s (offer n m d ws) (offering (granted tt)) r × (r.cycles ≡ s.cycles) × At F P M j (set aims (n * P.tickets + m) (Some d)) t w r ls es (o + 1)
   offered_at {j} n m d ws p h short narrow =
       let y = moved p in
@@ -265,10 +265,10 @@ module _ (F : Fabric) (P : Settings) (law : Lawful F.plan) {M : List ℕ} {i : T
     counted : r.cycles ≡ s.cycles + 1
     told : told r.log ≡ es ++ fresh
     alike : Alike r.log s.log
-    small : All Small fresh
+    small : AllByRecursion Small fresh
 
   cycle_parts : {q q' : Queue Event} {k : ℕ} {r : State} → s.cycles < 65536 → (v : Serves F P s (cycle q) (cycling (granted k) q') r) →
-      (r.cycles ≡ s.cycles + 1) × (Alike r.log s.log × All Small (puts v))
+      (r.cycles ≡ s.cycles + 1) × (Alike r.log s.log × AllByRecursion Small (puts v))
   cycle_parts h (cycle_granted e c) = (
     c.counted,
     (
@@ -293,7 +293,7 @@ module _ (F : Fabric) (P : Settings) (law : Lawful F.plan) {M : List ℕ} {i : T
     pub serves : Serves F P s (cycle q) (cycling (granted k) q') state
     pub counted : state.cycles ≡ s.cycles + 1
     pub held : contents q' ≡ puts serves
-    pub small : All Small (puts serves)
+    pub small : AllByRecursion Small (puts serves)
     pub fits : length (text (map line_of (puts serves))) ≤ length (beyond w)
     pub ins_few : ins es + ins (puts serves) ≤ 1024
     pub outs_few : outs es + outs (puts serves) ≤ 1024
@@ -440,7 +440,7 @@ module _ (F : Fabric) (P : Settings) (law : Lawful F.plan) {M : List ℕ} {i : T
   pub record Brought (j : Tables) (g d n m k : ℕ) (memory m' : List ℕ) : Type 0 where
     pub whole : complete g s.log ≡ true
     pub few_words : k ≤ 4
-    pub narrow : All (λ v. v < 2 ^ 32) (take k m')
+    pub narrow : AllByRecursion (λ v. v < 2 ^ 32) (take k m')
     pub short : length (take k m') ≤ 4
     pub in_memory : k ≤ length m'
     pub state : State
@@ -453,7 +453,7 @@ module _ (F : Fabric) (P : Settings) (law : Lawful F.plan) {M : List ℕ} {i : T
       record {
         whole = subst (λ (u : ℕ). complete u s.log ≡ true) at.ticket tested.0;
         few_words = omega (arith, tested.1, long, offer_of_it.0);
-        narrow = subst (λ (x : List ℕ). All (λ v. v < 2 ^ 32) x) (sym taken) offer_of_it.1;
+        narrow = subst (λ (x : List ℕ). AllByRecursion (λ v. v < 2 ^ 32) x) (sym taken) offer_of_it.1;
         short = let e = ap length taken in omega (arith, e, offer_of_it.0);
         in_memory = let e = ap length did.1.0 ∙ length-append ws (drop (length ws) memory) in omega (arith, e, tested.1, long);
         state = _;
@@ -501,7 +501,7 @@ module _ (F : Fabric) (P : Settings) (law : Lawful F.plan) {M : List ℕ} {i : T
       kept_so : Kept F P y.run (with_log F P s (collected u d ws))
       kept_so = subst (λ (r : State). Kept F P y.run r) did.1.1 y.kept
 
-      offer_of_it : (length ws ≤ 4) × All (λ v. v < 2 ^ 32) ws
+      offer_of_it : (length ws ≤ 4) × AllByRecursion (λ v. v < 2 ^ 32) ws
       offer_of_it =
           let e = (kept_so.collections u d ws (record { newer = []; older = s.log; split = refl })).there in
           narrow_at e.newer e.older u (record { destination = d; words = ws }) (subst (λ (l : Log). Narrow l) e.split a.narrow)

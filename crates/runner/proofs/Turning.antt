@@ -1,6 +1,6 @@
 -- One cycle of a run, put together from its offers, its cycle and its collections.
 use Rattle.std.proofs.Common.{◌≡◌, ℕ, ◌+◌, ◌*◌, ◌<◌, ◌≤◌, List, [], ◌∷◌, ◌++◌, map, length, Some, None, Option, sym, refl, ap, ◌∙◌, subst, subst₂, append_assoc, append-nil, arith}
-use Rattle.std.specs.List.{AllByRecursion as All}
+use Rattle.std.specs.List.{AllByRecursion}
 use Rattle.std.proofs.lemmas.List.{length-append}
 use Rattle.std.proofs.ByRecursion.{All-append}
 use Rattle.bounds.specs.declared.settings.Settings.{Settings}
@@ -122,7 +122,7 @@ module _ {A B : Type 0} (F : Fabric) (P : Settings) (c : ℕ) {M : List ℕ} {s 
             same_lines (append_assoc (ls ++ a.more) lines h.more ∙ append_assoc ls a.more (lines ++ h.more)) refl h.stands;
       }
 
-rising_later : (c k : ℕ) (ps : List Packet) → c < k → Rising k ps → All (λ p. c < p.cycle) ps
+rising_later : (c k : ℕ) (ps : List Packet) → c < k → Rising k ps → AllByRecursion (λ p. c < p.cycle) ps
 rising_later c k [] h r = tt
 rising_later c k (p ∷ ps) h r = (let e = r.0 in omega arith, rising_later c p.cycle ps (let e = r.0 in omega arith) r.1)
 

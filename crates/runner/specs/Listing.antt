@@ -1,6 +1,6 @@
 -- The listing of a run sheet: what the calls of its run are answered, line by line.
 use Rattle.std.specs.Prelude.{◌≡◌, ℕ, ◌+◌, ◌-◌, ◌*◌, ◌/◌, ◌<◌, true, false, cond, List, [], ◌∷◌, ◌++◌, map, take, Some, None, codes, Option, ◌==◌}
-use Rattle.std.specs.List.{AllByRecursion as All}
+use Rattle.std.specs.List.{AllByRecursion}
 use Rattle.fabric.specs.Verdicts.Verdict.{granted, refused}
 use Rattle.line.specs.Queues.{Queue}
 use Rattle.bounds.specs.declared.settings.Settings.{Settings}
@@ -79,7 +79,7 @@ module _ (F : Fabric) (P : Settings) where
 
   -- cycle c of a run: the packets due are offered, the cycle is carried out, complete packets are collected
   pub record Turn (c : ℕ) (due : List Packet) (s r : State) (ls : List (List Field)) (es : List Event) : Type 0 where
-    pub each_due : All (λ p. p.cycle ≡ c) due
+    pub each_due : AllByRecursion (λ p. p.cycle ≡ c) due
     pub ready : State
     pub refusals : List (List Field)
     pub offers : Offers s due ready refusals
@@ -97,7 +97,7 @@ module _ (F : Fabric) (P : Settings) where
   pub data Turns (ps : List Packet) : ℕ → List Packet → State → List (List Field) → List Event → Type 0 where
     begun : Turns ps 0 ps fresh [] []
     one_more : {c : ℕ} (due : List Packet) {later : List Packet} {s r : State} {ls more : List (List Field)} {es news : List Event} →
-        Turns ps c (due ++ later) s ls es → Turn c due s r more news → All (λ p. c < p.cycle) later →
+        Turns ps c (due ++ later) s ls es → Turn c due s r more news → AllByRecursion (λ p. c < p.cycle) later →
         Turns ps (c + 1) later r (ls ++ more) (es ++ news)
 
   -- the bytes are the listing of a run of so many cycles with these packets; its last line sums it up

@@ -1,6 +1,6 @@
 -- How far the run of a sheet has come, between its calls.
 use Rattle.std.specs.Prelude.{◌≡◌, ℕ, ◌+◌, ◌*◌, ◌^◌, ◌<◌, ◌≤◌, cond, List, [], ◌∷◌, ◌++◌, map, length, drop, Some, None, Option, slice_index_or}
-use Rattle.std.specs.List.{AllByRecursion as All}
+use Rattle.std.specs.List.{AllByRecursion}
 use Rattle.fabric.specs.Verdicts.Verdict.{granted}
 use Rattle.line.specs.Queues.{Queue}
 use Rattle.bounds.specs.declared.settings.Settings.{Settings}
@@ -39,7 +39,7 @@ pub record Spent (ls : List (List Field)) (l : Log) (o : ℕ) : Type 0 where
 -- each packet that was accepted has at most four words, of 32 bits
 abbrev pub Narrow : Log → Type 0
 Narrow [] = Unit {0}
-Narrow (offered t p ∷ l) = (length p.words ≤ 4) × All (λ w. w < 2 ^ 32) p.words × Narrow l
+Narrow (offered t p ∷ l) = (length p.words ≤ 4) × AllByRecursion (λ w. w < 2 ^ 32) p.words × Narrow l
 Narrow (entered f n ∷ l) = Narrow l
 Narrow (off f n c ∷ l) = Narrow l
 Narrow (collected t r ws ∷ l) = Narrow l
@@ -80,7 +80,7 @@ pub record Going {A B : Type 0} (F : Fabric) (x : Session A B) (w : Writer) : Ty
 -- a packet of a sheet
 pub record Sendable (p : Packet) : Type 0 where
   pub sized : Sized p
-  pub numbers : All Fits (packet_line p)
+  pub numbers : AllByRecursion Fits (packet_line p)
 
 -- a packet was offered
 pub record OfferedFrom {A B : Type 0} (F : Fabric) (P : Settings) (M : List ℕ) (p : Packet) (y : Session A B) (v : Writer) (s : State) (ls : List (List Field)) (es : List Event) (o : ℕ) : Type 0 where
@@ -104,13 +104,13 @@ pub record Ready {A B : Type 0} (F : Fabric) (c : ℕ) (coming : List Packet) (x
   pub now : going.state.cycles ≡ c
   pub room : going.packets + length coming ≤ 256
   pub rising : Rising c coming
-  pub sendable : All Sendable coming
+  pub sendable : AllByRecursion Sendable coming
 
 -- the packets due in cycle c were offered
 pub record DueFrom {A B : Type 0} (F : Fabric) (P : Settings) (M : List ℕ) (c : ℕ) (coming later : List Packet) (y : Session A B) (v : Writer) (s : State) (ls : List (List Field)) (es : List Event) (o : ℕ) : Type 0 where
   pub due : List Packet
   pub split : coming ≡ due ++ later
-  pub each_due : All (λ p. p.cycle ≡ c) due
+  pub each_due : AllByRecursion (λ p. p.cycle ≡ c) due
   pub state : State
   pub more : List (List Field)
   pub offers : Offers F P s due state more
@@ -124,7 +124,7 @@ Due F c coming later x w y v =
 -- the packets that are left can be offered in later cycles
 pub record Left (c : ℕ) (later : List Packet) : Type 0 where
   pub rising : Rising c later
-  pub sendable : All Sendable later
+  pub sendable : AllByRecursion Sendable later
 
 -- a cycle was carried out
 pub record CycledFrom {A B : Type 0} (F : Fabric) (P : Settings) (M : List ℕ) (y : Session A B) (v : Writer) (s : State) (ls : List (List Field)) (es : List Event) (o : ℕ) : Type 0 where

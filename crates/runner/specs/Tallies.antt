@@ -1,6 +1,6 @@
 -- What the last line of a listing sums up, as it is counted.
 use Rattle.std.specs.Prelude.{◌≡◌, ℕ, ◌+◌, ◌*◌, ◌<◌, ◌≤◌, List, map, length}
-use Rattle.std.specs.List.{AllByRecursion as All}
+use Rattle.std.specs.List.{AllByRecursion}
 use Rattle.network.specs.declared.event.Event.{Event}
 use Rattle.runsheet.specs.Texts.{text}
 use Rattle.writer.specs.declared.writer.Writer.{Writer}
@@ -30,7 +30,7 @@ pub record Counts (t : Tally) (a b c : ℕ) (t' : Tally) : Type 0 where
 
 -- there is room for the lines of the events, and the counts stay small
 pub record Tellable (t : Tally) (w : Writer) (es : List Event) : Type 0 where
-  pub small : All Small es
+  pub small : AllByRecursion Small es
   pub room : length (text (map line_of es)) ≤ length (beyond w)
   pub few_in : t.entered + ins es ≤ 1024
   pub few_out : t.off + outs es ≤ 1024
