@@ -12,38 +12,38 @@ returns-in_err-sheet c =
       lender = refl;
     }
 
-pub returns-in_err-mesh : goal.returns-in_err-mesh
-returns-in_err-mesh c =
+pub returns-in_err-mesh-in-Mesh : goal.returns-in_err-mesh-in-Mesh
+returns-in_err-mesh-in-Mesh c =
     let read = c.in_ok-sheet.ensures in
     let s = said c.in_ok-sheet.sheet in
     record {
-      carried = faulted c.args.bytes.now _ _ (err_from_is_err_and _ c.from_residual-in_err-mesh.ensures.1) refl
-          (inl (s, read, no_layout s _ (as_read _ _ _ c.in-Mesh.is c.in_err-mesh.ensures)));
+      carried = faulted c.args.bytes.now _ _ (err_from_is_err_and _ c.from_residual-in_err-mesh-in-Mesh.ensures.1) refl
+          (inl (s, read, no_layout s _ (as_read _ _ _ c.in-Mesh.is c.in_err-mesh-in-Mesh.ensures)));
       lender = refl;
     }
 
-pub returns-in_err-layout : goal.returns-in_err-layout
-returns-in_err-layout c =
+pub returns-in_err-layout-in-Cabled : goal.returns-in_err-layout-in-Cabled
+returns-in_err-layout-in-Cabled c =
     let read = c.in_ok-sheet.ensures in
     let s = said c.in_ok-sheet.sheet in
     record {
-      carried = faulted c.args.bytes.now _ _ (err_from_is_err_and _ c.from_residual-in_err-layout.ensures.1) refl
-          (inl (s, read, no_layout s _ (as_read _ _ _ c.in-Cabled.is c.in_err-layout.ensures)));
+      carried = faulted c.args.bytes.now _ _ (err_from_is_err_and _ c.from_residual-in_err-layout-in-Cabled.ensures.1) refl
+          (inl (s, read, no_layout s _ (as_read _ _ _ c.in-Cabled.is c.in_err-layout-in-Cabled.ensures)));
       lender = refl;
     }
 
-pub returns-in_ok-mesh : goal.returns-in_ok-mesh
-returns-in_ok-mesh c =
+pub returns-in_ok-mesh-in-Mesh : goal.returns-in_ok-mesh-in-Mesh
+returns-in_ok-mesh-in-Mesh c =
     let e = c.run_on.ensures in
     record {
-      carried = on_layout c.args.bytes.now _ _ _ c.in_ok-sheet.ensures _ (as_read _ _ _ c.in-Mesh.is c.in_ok-mesh.ensures) _ e.ended;
+      carried = on_layout c.args.bytes.now _ _ _ c.in_ok-sheet.ensures _ (as_read _ _ _ c.in-Mesh.is c.in_ok-mesh-in-Mesh.ensures) _ e.ended;
       lender = e.lender;
     }
 
-pub returns-in_ok-layout : goal.returns-in_ok-layout
-returns-in_ok-layout c =
+pub returns-in_ok-layout-in-Cabled : goal.returns-in_ok-layout-in-Cabled
+returns-in_ok-layout-in-Cabled c =
     let e = c.run_on-in-Cabled.ensures in
     record {
-      carried = on_layout c.args.bytes.now _ _ _ c.in_ok-sheet.ensures _ (as_read _ _ _ c.in-Cabled.is c.in_ok-layout.ensures) _ e.ended;
+      carried = on_layout c.args.bytes.now _ _ _ c.in_ok-sheet.ensures _ (as_read _ _ _ c.in-Cabled.is c.in_ok-layout-in-Cabled.ensures) _ e.ended;
       lender = e.lender;
     }

@@ -9,12 +9,12 @@ use Rattle.runner.proofs.list.list.Goals as goal
 pub returns-then-memory-lt-MEMORY : goal.returns-then-memory-lt-MEMORY
 returns-then-memory-lt-MEMORY c = record { out = short c.if-memory-lt-MEMORY.true; only = one_listing }
 
-pub returns-in_err-fault : goal.returns-in_err-fault
-returns-in_err-fault c =
+pub returns-in_err-fault-in-Err : goal.returns-in_err-fault-in-Err
+returns-in_err-fault-in-Err c =
     let new = c.new-writer.ensures.empty in
     let e = c.fault.ensures in
     absurd (no_room c.args.sheet.now c.args.memory.now c.new-writer.result new.0 new.1 c.if-memory-lt-MEMORY.false c.in-Err.fault c.carry_out.new.writer c.fault.new.self
-    c.in-Err.ensures.carried.1 c.fault.result e.few e.line _ c.in_err-fault.was)
+    c.in-Err.ensures.carried.1 c.fault.result e.few e.line _ c.in_err-fault-in-Err.was)
 
 pub returns-in-Ok : goal.returns-in-Ok
 returns-in-Ok c =
@@ -24,8 +24,8 @@ returns-in-Ok c =
     let same = sym (c.carry_out.ensures.lender ∙ c.new-writer.ensures.lender) in
     record { out = search (rules, λ (x : List ℕ) (p : x ≡ v.memory.now). subst (λ (m : List ℕ). WrittenOut c.args.sheet.now c.args.memory.now (granted c.len.result) m) (sym p) out); only = one_listing }
 
-pub returns-in_ok-fault : goal.returns-in_ok-fault
-returns-in_ok-fault c =
+pub returns-in_ok-fault-in-Err : goal.returns-in_ok-fault-in-Err
+returns-in_ok-fault-in-Err c =
     let new = c.new-writer.ensures.empty in
     let e = c.fault.ensures in
     let u = c.fault.new.self in
