@@ -33,7 +33,7 @@ use Rattle.runsheet.specs.Texts.{Field, written, text}
 use Rattle.writer.specs.declared.writer.Writer.{Writer}
 use Rattle.writer.specs.Listings.{listed, beyond, Appends}
 use Rattle.runner.specs.declared.tally.Tally.{Tally}
-use Rattle.network.specs.Counts.{offers, entries, collections}
+use Rattle.network.specs.Counts.{offers, entries}
 use Rattle.runner.specs.Listing.{line_of, ins, outs}
 use Rattle.runner.specs.Tallies.{Small, Tallied}
 use Rattle.runner.specs.Progress.{Aimed, Narrow, At}

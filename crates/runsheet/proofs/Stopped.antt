@@ -7,7 +7,7 @@ use Rattle.fabric.specs.declared.parts.Cable.{Cable as Wire}
 use Rattle.runsheet.specs.Texts.{Field, Fits, row, written, text, Barred}
 use Rattle.runsheet.specs.Said.{Said}
 use Rattle.runsheet.specs.Sheets.{lines, Formed, SheetText, Refused, cables_line, cable_line, packets_line, packet_line, shape_line, kind_line, run_line}
-use Rattle.runsheet.specs.Faults.{told, ill_formed, too_many, Goes_on, Stops}
+use Rattle.runsheet.specs.Faults.{told, ill_formed, too_many, GoesOn, Stops}
 use Rattle.runsheet.specs.Reading.{Draft, entry_line, Suits, Exceeds, cabled_lines, so_far, lines_read, Stage, Valid, Refuses}
 use Rattle.runsheet.specs.declared.fault.Fault.{Fault}
 use Rattle.runsheet.specs.declared.parts.Packet.{Packet as Plan}
@@ -76,7 +76,7 @@ module _ (d : Draft) (bs rest : List ℕ) (v : Valid d) (o : bs ≡ text (lines_
             (λ i. omega (arith, i.0, h.0))
             (λ i. h.1 (cut (row (get_or L (length A) [])) (row l) i.1.0 more (All-get_or Tidy L (length A) [] h.0 t).ends T.ends (sym (ended (get_or L (length A) []) i.1.0) ∙ sym i.1.1 ∙ w ∙ ended l more)).0)
             m.1;
-        fault = inr (at, subst (λ k. Goes_on lines Unlimited k bs) (length_push A l) (along lines (A ++ l ∷ []) bs more (onward A (A ++ l ∷ []) l bs rest more o refl w) Unlimited s Z big e));
+        fault = inr (at, subst (λ k. GoesOn lines Unlimited k bs) (length_push A l) (along lines (A ++ l ∷ []) bs more (onward A (A ++ l ∷ []) l bs rest more o refl w) Unlimited s Z big e));
       }
 
   over_cables : (f : Fault) (n : ℕ) (more : List ℕ) → told f ≡ too_many (length (lines_read d) + 1) → AllByRecursion Fits (cables_line n) → Suits d (entry.Cables n) → 128 < n → rest ≡ written (cables_line n) ++ more → Stops lines Lawful Unlimited bs (length (lines_read d)) f

@@ -34,14 +34,14 @@ abbrev pub Along : {D : Type 0} → (D → List (List Field)) → ℕ → D → 
 Along lines k d bs = (rest : List ℕ) × (bs ≡ text (take k (lines d)) ++ rest) × (length (lines d) < k → rest ≡ [])
 
 -- some document that P holds of goes along with the bytes through line k
-abbrev pub Goes_on : {D : Type 0} → (D → List (List Field)) → (D → Type 0) → ℕ → List ℕ → Type 0
-Goes_on {D} lines P k bs = (d : D) × P d × Along lines k d bs
+abbrev pub GoesOn : {D : Type 0} → (D → List (List Field)) → (D → Type 0) → ℕ → List ℕ → Type 0
+GoesOn {D} lines P k bs = (d : D) × P d × Along lines k d bs
 
 -- line k + 1 is the first at which no lawful document goes on: by 17 if one would go on but for the limits of counts, else by 16
 pub record Stops {D : Type 0} (lines : D → List (List Field)) (Lawful Unlimited : D → Type 0) (bs : List ℕ) (k : ℕ) (f : Fault) : Type 0 where
-  pub before : Goes_on lines Lawful k bs
-  pub ends : Goes_on lines Lawful (k + 1) bs → ⊥
-  pub fault : ((told f ≡ ill_formed (k + 1)) × (Goes_on lines Unlimited (k + 1) bs → ⊥)) ⊎ ((told f ≡ too_many (k + 1)) × Goes_on lines Unlimited (k + 1) bs)
+  pub before : GoesOn lines Lawful k bs
+  pub ends : GoesOn lines Lawful (k + 1) bs → ⊥
+  pub fault : ((told f ≡ ill_formed (k + 1)) × (GoesOn lines Unlimited (k + 1) bs → ⊥)) ⊎ ((told f ≡ too_many (k + 1)) × GoesOn lines Unlimited (k + 1) bs)
 
 abbrev pub Faulty : {D : Type 0} → (D → List (List Field)) → (D → Type 0) → (D → Type 0) → List ℕ → Fault → Type 0
 Faulty lines Lawful Unlimited bs f = ((65536 < length bs) × (told f ≡ too_long)) ⊎ ((length bs ≤ 65536) × ((k : ℕ) × Stops lines Lawful Unlimited bs k f))

@@ -3,7 +3,7 @@ use Rattle.std.proofs.Common.{◌≡◌, ℕ, ◌+◌, ◌-◌, ◌<◌, ◌≤�
 use Rattle.std.specs.List.{AllByRecursion}
 use Rattle.std.proofs.lemmas.List.{take-append-drop, take_rest, drop_more, take_at, length-append, length_push, flat_map_more}
 use Rattle.sheet.specs.Texts.{Field, Fits, Free, Lined, Barred, shown, spaced, row, written, text, parted}
-use Rattle.sheet.specs.Faults.{told, ill_formed, Goes_on, Faulty}
+use Rattle.sheet.specs.Faults.{told, ill_formed, GoesOn, Faulty}
 use Rattle.sheet.specs.declared.fault.Fault.{Fault}
 use Rattle.sheet.specs.Reading.{Over}
 use Rattle.sheet.proofs.Parting.{spaced_parted}
@@ -66,7 +66,7 @@ module _ {X : Type 0} (line : X → List Field) (P : X → Type 0) (rest : List 
 -- the lines A were read
 module _ {D : Type 0} (lines : D → List (List Field)) (A : List (List Field)) (bs rest : List ℕ) (j : ℕ) (o : Over A bs 0 rest j) where
   -- a document that begins with them goes along
-  pub along : (P : D → Type 0) (d : D) (Z : List (List Field)) → P d → lines d ≡ A ++ Z → Goes_on lines P (length A) bs
+  pub along : (P : D → Type 0) (d : D) (Z : List (List Field)) → P d → lines d ≡ A ++ Z → GoesOn lines P (length A) bs
   along P d Z h z = (
     d,
     h,
@@ -78,14 +78,14 @@ module _ {D : Type 0} (lines : D → List (List Field)) (A : List (List Field)) 
   )
 
   -- one that goes on agrees with them, and goes on with the rest
-  pub goes_on : (P : D → Type 0) → ((d : D) → P d → AllByRecursion Tidy (lines d)) → AllByRecursion Tidy A → (g : Goes_on lines P (length A + 1) bs) → Matched A (lines g.0) rest
+  pub goes_on : (P : D → Type 0) → ((d : D) → P d → AllByRecursion Tidy (lines d)) → AllByRecursion Tidy A → (g : GoesOn lines P (length A + 1) bs) → Matched A (lines g.0) rest
   goes_on P tidy t g = matched A (lines g.0) rest g.2.0 t (tidy g.0 g.1) (sym o.bytes ∙ g.2.1) g.2.2
 
   -- none goes on
   pub halted : (Lawful Unlimited : D → Type 0) (f : Fault) (d : D) (Z : List (List Field)) → length bs ≤ 65536 → ((d : D) → Lawful d → Unlimited d) → ((d : D) → Unlimited d → AllByRecursion Tidy (lines d)) →
       Lawful d → lines d ≡ A ++ Z → told f ≡ ill_formed (j + 1) → AllByRecursion Tidy A → ((d : D) → Unlimited d → Matched A (lines d) rest → ⊥) → Faulty lines Lawful Unlimited bs f
   halted Lawful Unlimited f d Z short weaker tidy h z at t none =
-      let no : Goes_on lines Unlimited (length A + 1) bs → ⊥ = λ g. none g.0 g.1 (goes_on Unlimited tidy t g) in
+      let no : GoesOn lines Unlimited (length A + 1) bs → ⊥ = λ g. none g.0 g.1 (goes_on Unlimited tidy t g) in
       inr (
         short,
         (

@@ -1,6 +1,5 @@
 use Rattle.std.proofs.Common.{ℕ, refl, ap}
 use Rattle.fabric.specs.Refusals.{number}
-use Rattle.sheet.specs.declared.fault.Layer.{Layer}
 use Rattle.sheet.specs.declared.fault.Layer.TheVariants.{Layout}
 use Rattle.limit.specs.Reports.Report.{faults}
 use Rattle.limit.proofs.Answering.{as_plans, named_below}

@@ -1,5 +1,4 @@
 use Rattle.std.proofs.Common.{ℕ, refl, ◌∙◌, subst, arith}
-use Rattle.fabric.specs.Refusals.{number}
 use Rattle.network.specs.Cycle.{Fabric}
 use Rattle.writer.specs.Listings.{LineOut, no_line}
 use Rattle.fabric.specs.Refusals.{shown}
