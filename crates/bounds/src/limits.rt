@@ -55,10 +55,10 @@ mod tests {
             epoch,
             seed,
         };
-        match Limits::of(&mesh, settings) {
-            Ok(limits) => Ok(limits.latest),
-            Err(refusal) => Ok(1000 * usize::from(refusal.number())),
-        }
+        Ok(Limits::of(&mesh, settings).map_or_else(
+            |refusal| 1000 * usize::from(refusal.number()),
+            |limits| limits.latest,
+        ))
     }
 
     #[test]

@@ -6,7 +6,7 @@ use fabric::layout::Layout;
 use fabric::parts::Port;
 use std::alloc::{AllocError, Global};
 
-// A flit leaves this node by this port.
+// A flit leaves this node by this port. It is no slot, though of the same fields: in a slot is what arrived by the port.
 #[derive(Clone, Copy, PartialEq, Eq, Debug)]
 pub struct Hop {
     pub node: usize,

@@ -37,13 +37,14 @@ impl Settings {
             epoch,
             seed,
         } = *self;
-        if tickets < 1 || tickets > MOST_TICKETS || words < 1 || words > MOST_WORDS {
+        if !matches!((tickets, words), (1..=MOST_TICKETS, 1..=MOST_WORDS)) {
             return Err(Refusal::Limits);
         }
-        if epoch < words * (layout.reach() + 1) || epoch > LONGEST_EPOCH {
+        let shortest = words * (layout.reach() + 1);
+        if !(shortest..=LONGEST_EPOCH).contains(&epoch) {
             return Err(Refusal::Epoch);
         }
-        if seed == 0 || seed > LAST_SEED {
+        if !matches!(seed, 1..=LAST_SEED) {
             return Err(Refusal::Seed);
         }
         Ok(())

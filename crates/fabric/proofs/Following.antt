@@ -5,12 +5,6 @@ use Rattle.fabric.specs.declared.parts.Port.{Port}
 use Rattle.fabric.specs.declared.parts.Slot.{Slot}
 use Rattle.fabric.specs.Layouts.{Plan, Lawful, Exists, Missing, Leads}
 
-none_some : (w : Port) (o : Option Port) → o ≡ None → o ≡ Some w → ⊥
-none_some w o e f = let z : ◌≡◌ {A = ℕ} 0 1 = cc in omega arith
-
-some_is : (v w : Port) (o : Option Port) → o ≡ Some v → o ≡ Some w → v ≡ w
-some_is v w o e f = cc
-
 module _ (p : Plan) (l : Lawful p) where
   -- both nodes exist, or one is missing
   pub present : (m n : ℕ) → (Exists p m × Exists p n) ⊎ (Missing p m ⊎ Missing p n)
@@ -27,15 +21,15 @@ module _ (p : Plan) (l : Lawful p) where
     where
       go : Exists p m × Exists p n → (p.distance m n ≡ 0) ⊎ (p.distance m n ≡ 0 → ⊥) → p.distance m n ≡ 0
       go h (inl z) = z
-      go h (inr z) = let o = l.nearer m n h.0 h.1 z in absurd (none_some o.0 (p.wish m n) e o.1)
+      go h (inr z) = let o = l.nearer m n h.0 h.1 z in cc
 
   -- a wish leads one nearer
   pub wish_leads : (m n : ℕ) (w : Port) → p.wish m n ≡ Some w → Leads p m n w
-  wish_leads m n w e = ⊎_elim (λ h. go h (cases_eq (p.distance m n) 0)) (λ h. absurd (none_some w _ (l.missing_wish m n h) e)) (present m n)
+  wish_leads m n w e = ⊎_elim (λ h. go h (cases_eq (p.distance m n) 0)) (λ h. cc (l.missing_wish m n h)) (present m n)
     where
       go : Exists p m × Exists p n → (p.distance m n ≡ 0) ⊎ (p.distance m n ≡ 0 → ⊥) → Leads p m n w
-      go h (inl z) = absurd (none_some w _ (l.absent m n h.0 h.1 z) e)
-      go h (inr z) = let o = l.nearer m n h.0 h.1 z in subst (Leads p m n) (some_is o.0 w _ o.1 e) o.2
+      go h (inl z) = cc (l.absent m n h.0 h.1 z)
+      go h (inr z) = let o = l.nearer m n h.0 h.1 z in subst (Leads p m n) (let same : o.0 ≡ w = cc in same) o.2
 
   -- a far end of a node that exists is at a node that exists: else it would lead back to itself
   pub far_exists : (n : ℕ) (s : Port) → Exists p n → Exists p (p.far n s).node

@@ -8,6 +8,7 @@ ghost use Rattle.fabric.specs.Grid.{mesh_lawful};
 use super::layout::Layout;
 use super::parts::{Port, Slot};
 use super::refusal::Refusal;
+use std::cmp::Ordering;
 
 const MOST_NODES: usize = 64;
 
@@ -20,7 +21,7 @@ pub struct Mesh {
 
 impl Mesh {
     pub fn new(width: usize, height: usize) -> Result<Mesh, Refusal>
-        ensures { granting (λ m. mesh_plan m.width m.height) (shown result) ≡ mesh_verdict width height }
+        ensures { granting ⟦<Mesh as Layout>⟧.plan (shown result) ≡ mesh_verdict width height }
     {
         match width.checked_mul(height) {
             Some(1..=MOST_NODES) => Ok(Mesh { width, height }),
@@ -82,16 +83,12 @@ impl Layout for Mesh {
         }
         let (column, row) = (from % self.width, from / self.width);
         let (aim_column, aim_row) = (to % self.width, to / self.width);
-        if column < aim_column {
-            Some(Port::E)
-        } else if column > aim_column {
-            Some(Port::W)
-        } else if row < aim_row {
-            Some(Port::S)
-        } else if row > aim_row {
-            Some(Port::N)
-        } else {
-            None
+        match (column.cmp(&aim_column), row.cmp(&aim_row)) {
+            (Ordering::Less, _) => Some(Port::E),
+            (Ordering::Greater, _) => Some(Port::W),
+            (_, Ordering::Less) => Some(Port::S),
+            (_, Ordering::Greater) => Some(Port::N),
+            (Ordering::Equal, Ordering::Equal) => None,
         }
     }
 
@@ -106,10 +103,7 @@ mod tests {
 
     // The number that refuses a mesh of these sides, or 0.
     fn refused(width: usize, height: usize) -> u8 {
-        match Mesh::new(width, height) {
-            Ok(_) => 0,
-            Err(refusal) => refusal.number(),
-        }
+        Mesh::new(width, height).err().map_or(0, Refusal::number)
     }
 
     #[test]

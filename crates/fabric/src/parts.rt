@@ -5,8 +5,9 @@ ghost use Rattle.fabric.specs.Ports.{place_of, letter};
 use std::fmt;
 
 // A side of a node, by which flits arrive and leave. This is slot order.
-#[derive(Clone, Copy, PartialEq, Eq, Debug)]
+#[derive(Clone, Copy, PartialEq, Eq, Debug, Default)]
 pub enum Port {
+    #[default]
     N,
     E,
     S,
@@ -14,6 +15,9 @@ pub enum Port {
 }
 
 impl Port {
+    // All ports, in slot order.
+    pub const ALL: [Port; 4] = [Port::N, Port::E, Port::S, Port::W];
+
     // The port's place among four, in slot order.
     pub fn index(self) -> usize
         ensures { result ≡ place_of self }
@@ -36,14 +40,14 @@ impl fmt::Display for Port {
 }
 
 // The input register behind a port of a node: empty, or holding one flit that arrived there.
-#[derive(Clone, Copy, PartialEq, Eq, Debug)]
+#[derive(Clone, Copy, PartialEq, Eq, Debug, Default)]
 pub struct Slot {
     pub node: usize,
     pub port: Port,
 }
 
 // A cable joins two ports, of one node or of two.
-#[derive(Clone, Copy, PartialEq, Eq, Debug)]
+#[derive(Clone, Copy, PartialEq, Eq, Debug, Default)]
 pub struct Cable {
     pub one: Slot,
     pub other: Slot,
@@ -60,4 +64,16 @@ pub struct Flit {
     pub word: u32,
     // the cycle in which the flit was injected
     pub entered: u32,
+}
+
+#[cfg(test)]
+mod tests {
+    use super::*;
+
+    #[test]
+    fn all_in_slot_order(rt: HostRuntime) {
+        for (k, port) in Port::ALL.iter().enumerate() {
+            assert_eq!(rt; port.index(), k);
+        }
+    }
 }

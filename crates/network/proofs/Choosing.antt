@@ -185,7 +185,7 @@ module _ (F : Fabric) (P : Settings) (s : State) (n : ℕ) (here : Places) where
 
   -- what enters does so where a packet waits and a place is empty
   not_none : (b : Port × Flit) → LetsIn P s n here None → LetsIn P s n here (Some b) → ⊥
-  not_none b (inl w) v = let e : [] ≡ b.1.ticket ∷ v.1.others = sym w ∙ v.1.ticket in let z : ◌≡◌ {A = ℕ} 0 1 = cc in omega arith
+  not_none b (inl w) v = let e : [] ≡ b.1.ticket ∷ v.1.others = sym w ∙ v.1.ticket in cc
   not_none b (inr h) v = h b.0 v.0.empty
 
   pub lets_one : (a b : Option (Port × Flit)) → LetsIn P s n here a → LetsIn P s n here b → a ≡ b

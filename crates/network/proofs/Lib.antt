@@ -15,6 +15,5 @@ pub mod Undisturbed
 pub mod Choosing
 pub mod Solving
 pub mod Kept
-pub mod Granting
 pub mod Seen
 pub mod Counting

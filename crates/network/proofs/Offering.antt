@@ -141,7 +141,7 @@ module _ (F : Fabric) (P : Settings) (s : State) (N : ℕ) (i : Inv F P s N) (u 
       go (inr h) = rw (ne_eqb (u / P.tickets) n h) (old, i.queue_apart n)
 
   pub inv_offer : Inv F P (record { cycles = s.cycles; slot = s.slot; log = offered u pk ∷ s.log }) N
-  inv_offer = inv_quiet F P s N i (offered u pk) tt sits_o opens_o right_o unsent_o queue_o (λ t r ws e. let z : ◌≡◌ {A = ℕ} 0 1 = cc in absurd (omega arith))
+  inv_offer = inv_quiet F P s N i (offered u pk) tt sits_o opens_o right_o unsent_o queue_o (λ t r ws e. cc)
 
 -- one more happening that is no offer and no collection of this ticket
 last_more : (t : ℕ) (p : Packet) (x : Happening) (l : Log) → ((q : Packet) → x ≡ offered t q → ⊥) → ((r : ℕ) (ws : List ℕ) → x ≡ collected t r ws → ⊥) →
@@ -170,19 +170,19 @@ offered_last t p (offered u q ∷ l) e o = go (cases_eq t u) (offered_last t p l
     go (inr h) ih =
         last_more t p (offered u q) l
         (λ x k. let y : u ≡ t = cc in h (sym y))
-        (λ r ws k. let z : ◌≡◌ {A = ℕ} 0 1 = cc in omega arith)
+        (λ r ws k. cc)
         (ih (rw (ne_eqb t u h) at e) (rw (ne_eqb t u h) at o))
 offered_last t p (entered f n ∷ l) e o =
-    last_more t p (entered f n) l (λ x k. let z : ◌≡◌ {A = ℕ} 0 1 = cc in omega arith) (λ r ws k. let z : ◌≡◌ {A = ℕ} 0 1 = cc in omega arith) (offered_last t p l e o)
+    last_more t p (entered f n) l (λ x k. cc) (λ r ws k. cc) (offered_last t p l e o)
 offered_last t p (off f n c ∷ l) e o =
-    last_more t p (off f n c) l (λ x k. let z : ◌≡◌ {A = ℕ} 0 1 = cc in omega arith) (λ r ws k. let z : ◌≡◌ {A = ℕ} 0 1 = cc in omega arith) (offered_last t p l e o)
+    last_more t p (off f n c) l (λ x k. cc) (λ r ws k. cc) (offered_last t p l e o)
 offered_last t p (collected u r ws ∷ l) e o = go (cases_eq t u) (offered_last t p l)
   where
     go : (t ≡ u) ⊎ (t ≡ u → ⊥) → (packet t l ≡ Some p → free t l ≡ false → OfferedLast t p l) → OfferedLast t p (collected u r ws ∷ l)
     go (inl h) ih = absurd (both_ways true (rw (eq-eqb t u h) at o) refl)
     go (inr h) ih =
         last_more t p (collected u r ws) l
-        (λ x k. let z : ◌≡◌ {A = ℕ} 0 1 = cc in omega arith)
+        (λ x k. cc)
         (λ a b k. let y : u ≡ t = cc in h (sym y))
         (ih e (rw (ne_eqb t u h) at o))
 

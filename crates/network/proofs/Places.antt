@@ -8,7 +8,7 @@ use Rattle.fabric.specs.Ports.{place_of}
 use Rattle.network.specs.Runs.{port_of}
 
 pub some_none : {A B : Type 0} (o : Option A) (x : A) → o ≡ None → o ≡ Some x → B
-some_none o x p q = let z : ◌≡◌ {A = ℕ} 0 1 = cc in absurd (omega arith)
+some_none o x p q = cc
 
 pub some_same : {A : Type 0} (o : Option A) (x y : A) → o ≡ Some x → o ≡ Some y → x ≡ y
 some_same o x y p q = cc

@@ -20,7 +20,7 @@ use Rattle.network.proofs.Cycling.{inv_cycle}
 
 -- the first test of a verdict that grants has failed
 pub peel : {A : Type 0} (k : ℕ) (b : Bool) (v : Verdict A) (a : A) → cond b (refused k []) v ≡ granted a → (b ≡ false) × (v ≡ granted a)
-peel k true v a e = let z : ◌≡◌ {A = ℕ} 0 1 = cc in absurd (omega arith)
+peel k true v a e = cc
 peel k false v a e = (refl, e)
 
 module _ (F : Fabric) (P : Settings) where

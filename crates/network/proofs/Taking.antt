@@ -21,10 +21,10 @@ pub record Removed (old new : Slots) (n : ℕ) (p : Port) (f : Flit) : Type 0 wh
   pub stays : (m : ℕ) (q : Port) (g : Flit) → old m q ≡ Some g → ((m ≡ n) × (q ≡ p)) ⊎ (new m q ≡ Some g)
 
 off_entered : {f g : Flit} {n m c : ℕ} → off f n c ≡ entered g m → ⊥
-off_entered e = let z : ◌≡◌ {A = ℕ} 0 1 = cc in omega arith
+off_entered e = cc
 
 off_collected : {f : Flit} {n c t r : ℕ} {ws : List ℕ} → off f n c ≡ collected t r ws → ⊥
-off_collected e = let z : ◌≡◌ {A = ℕ} 0 1 = cc in omega arith
+off_collected e = cc
 
 module _ (F : Fabric) (P : Settings) (s : State) (N : ℕ) (i : Inv F P s N) (new : Slots) (n : ℕ) (p : Port) (f : Flit)
     (rm : Removed s.slot new n p f) (home : f.destination ≡ n) where

@@ -1,3 +1,4 @@
+pub mod Kinds
 pub mod Computed
 pub mod Counts
 pub mod Log

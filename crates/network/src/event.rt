@@ -1,14 +1,30 @@
 // What a cycle tells of a flit.
+ghost use Rattle.std.specs.Prelude.{Some};
+ghost use Rattle.network.specs.Kinds.{kind_word};
 
-#[derive(Clone, Copy, PartialEq, Eq, Debug)]
+use std::fmt;
+
+#[derive(Clone, Copy, PartialEq, Eq, Debug, Default)]
 pub enum Kind {
     // injected
+    #[default]
     In,
     // ejected
     Out,
 }
 
-#[derive(Clone, Copy, PartialEq, Eq, Debug)]
+impl fmt::Display for Kind {
+    ghost output = { λ k. Some (kind_word k) };
+
+    fn fmt<W: fmt::Write>(&self, f: &mut fmt::Formatter<W>) -> fmt::Result {
+        match *self {
+            Kind::In => f.write_str("in"),
+            Kind::Out => f.write_str("out"),
+        }
+    }
+}
+
+#[derive(Clone, Copy, PartialEq, Eq, Debug, Default)]
 pub struct Event {
     pub cycle: u32,
     pub kind: Kind,

@@ -11,12 +11,11 @@ use fabric::layout::Layout;
 use fabric::refusal::Refusal;
 
 // Once so many cycles are carried out, a flit that was injected in this cycle is ejected, whatever traffic there is.
+#[tactic(auto, using(crate::proofs::Kept::kept))]
 pub fn off_by<L: Layout>(layout: &L, settings: Settings, entered: u32) -> Result<usize, Refusal>
     ensures exact { shown result ≡ granting (λ _. off_by (L.plan layout.now) settings entered) (set_up_verdict (L.plan layout.now) settings) }
     ensures kept { AlwaysKept }
 {
-    match Limits::of(layout, settings) {
-        Ok(limits) => Ok(entered as usize + 1 + limits.latest),
-        Err(refusal) => Err(refusal),
-    }
+    let limits = Limits::of(layout, settings)?;
+    Ok(entered as usize + 1 + limits.latest)
 }

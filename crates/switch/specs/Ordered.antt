@@ -50,7 +50,7 @@ pub some_is : {A : Type 0} (f g : A) (o : Option A) → o ≡ Some f → o ≡ S
 some_is f g o p q = cc
 
 pub none_some : {A : Type 0} (f : A) (o : Option A) → o ≡ None → o ≢ Some f
-none_some f o e p = let z : ◌≡◌ {A = ℕ} 0 1 = cc in omega arith
+none_some f o e p = cc
 
 -- one more number compared
 less : (a b : ℕ) (rest : Bool) (R : Type 0) → cond (a == b) rest (nat_lt a b) ≡ true → (rest ≡ true → R) → (a < b) ⊎ ((a ≡ b) × R)

@@ -44,7 +44,7 @@ module _ (h : Handing) where
   golden_or_plain s = go (at h.places s) refl
     where
       go : (p : Option Flit) → at h.places s ≡ p → ((f : Flit) × Golden h s f) ⊎ Plain h s
-      go None e = inr (λ f G. let gone : at h.places s ≡ Some f = G.0 in let z : ◌≡◌ {A = ℕ} 0 1 = cc in omega arith)
+      go None e = inr (λ f G. let gone : at h.places s ≡ Some f = G.0 in cc)
       go (Some f) e = elim (eqb_tells f.ticket h.golden) [
         | inl t ↦ inl (f, (e, t.1))
         | inr t ↦ inr (λ g G. let here : at h.places s ≡ Some g = G.0 in let same : f ≡ g = cc in t.1 (ap (λ (x : Flit). x.ticket) same ∙ G.1))

@@ -24,51 +24,46 @@ fn is_sooner(one: Flit, other: Flit) -> bool
 fn is_outranked(first: Option<Flit>, second: Option<Flit>, golden: usize) -> bool
     ensures { result ≡ outranked golden first second }
 {
-    let tie = match (first, second) {
-        (Some(f), Some(g)) => is_sooner(g, f),
-        _ => false,
-    };
+    let tie = first.zip(second).is_some_and(|(f, g)| is_sooner(g, f));
     gives_way(Rank::at(first, golden), Rank::at(second, golden), tie)
 }
 
-// Of two slots the one to be served first, the first if equal.
-fn better_of(
+// The slots that wait to be served, under a golden ticket.
+#[derive(Clone, Copy)]
+struct Round {
     places: [Option<Flit>; 4],
     golden: usize,
     waiting: [bool; 4],
-    one: Port,
-    other: Port,
-) -> Port
-    ensures { result ≡ better golden places (held waiting) one other }
-{
-    let passed = waiting[other.index()]
-        && (!waiting[one.index()]
-            || is_outranked(places[one.index()], places[other.index()], golden));
-    if passed { other } else { one }
 }
 
-// Of the slots that wait, the one to be served first.
-fn best_of(places: [Option<Flit>; 4], golden: usize, waiting: [bool; 4]) -> Port
-    ensures { result ≡ best golden places (held waiting) }
-{
-    let north_east = better_of(places, golden, waiting, Port::N, Port::E);
-    let not_west = better_of(places, golden, waiting, north_east, Port::S);
-    better_of(places, golden, waiting, not_west, Port::W)
+impl Round {
+    // Of two slots the one to be served first, the first if equal.
+    fn better(&self, one: Port, other: Port) -> Port
+        ensures { result ≡ better self.now.golden self.now.places (held self.now.waiting) one other }
+    {
+        let (i, k) = (one.index(), other.index());
+        let passed = self.waiting[k]
+            && (!self.waiting[i] || is_outranked(self.places[i], self.places[k], self.golden));
+        if passed { other } else { one }
+    }
+
+    // Of the slots that wait, the one to be served first.
+    fn best(&self) -> Port
+        ensures { result ≡ best self.now.golden self.now.places (held self.now.waiting) }
+    {
+        let north_east = self.better(Port::N, Port::E);
+        let not_west = self.better(north_east, Port::S);
+        self.better(not_west, Port::W)
+    }
 }
 
 fn first_free_of(free: [bool; 4]) -> Port
     ensures { result ≡ first_free (held free) }
 {
-    let [n, e, _, w] = free;
-    if e {
-        Port::E
-    } else if w {
-        Port::W
-    } else if n {
-        Port::N
-    } else {
-        Port::S
-    }
+    [Port::E, Port::W, Port::N]
+        .into_iter()
+        .find(|port| free[port.index()])
+        .unwrap_or(Port::S)
 }
 
 // The port that a flit with this wish takes.
@@ -102,13 +97,17 @@ impl Switch for Bless {
         ensures ranked { BlessLaw (handed places wishes golden draws) (bless_turn (handed places wishes golden draws)).to }
     {
         let mut out = [None; 4];
-        let mut waiting = [true; 4];
         let mut free = [true; 4];
+        let mut round = Round {
+            places,
+            golden,
+            waiting: [true; 4],
+        };
         for _ in 0..4usize {
-            let slot = best_of(places, golden, waiting).index();
+            let slot = round.best().index();
             let port = choose(free, wishes[slot]).index();
             out[port] = places[slot];
-            waiting[slot] = false;
+            round.waiting[slot] = false;
             free[port] = false;
         }
         out
@@ -117,26 +116,11 @@ impl Switch for Bless {
 
 #[cfg(test)]
 mod tests {
-    use super::*;
+    use super::Bless;
+    use crate::cases::{Case, GOLDEN, flit};
+    use fabric::parts::Port;
 
-    const GOLDEN: u16 = 9;
-
-    #[derive(Clone, Copy)]
-    struct Case {
-        places: [Option<Flit>; 4],
-        wishes: [Option<Port>; 4],
-        out: [Option<Flit>; 4],
-    }
-
-    fn flit(ticket: u16, number: u8, entered: u32, word: u32) -> Option<Flit> {
-        Some(Flit {
-            ticket,
-            number,
-            destination: 0,
-            word,
-            entered,
-        })
-    }
+    const DRAWS: [bool; 4] = [true; 4];
 
     #[test]
     fn table(rt: HostRuntime) {
@@ -153,33 +137,33 @@ mod tests {
             Case {
                 places: [a, d, c, b],
                 wishes: [e, e, e, e],
+                draws: DRAWS,
                 out: [d, c, a, b],
             },
             // golden flits by number, of one number by slot order, and then the ordinary flit
             Case {
                 places: [high, twin, low, a],
                 wishes: [s, s, s, s],
+                draws: DRAWS,
                 out: [a, high, low, twin],
             },
             // wishes at empty places, a flit without a wish
             Case {
                 places: [None, c, None, a],
                 wishes: [e, None, w, w],
+                draws: DRAWS,
                 out: [None, c, None, a],
             },
             // by ticket, and wishes taken by one without a wish and by one deflected: high, b, x, a
             Case {
                 places: [a, x, b, high],
                 wishes: [w, e, e, None],
+                draws: DRAWS,
                 out: [x, high, a, b],
             },
         ];
         for case in cases {
-            let golden = GOLDEN as usize;
-            assert_eq!(rt;
-                Bless.route(case.places, case.wishes, golden, [true; 4]),
-                case.out
-            );
+            assert_eq!(rt; case.routed_by(&Bless), case.out);
         }
     }
 }

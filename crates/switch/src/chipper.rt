@@ -59,10 +59,7 @@ impl Block {
     fn wants_second(self, wish: Option<Port>) -> bool
         ensures { result ≡ wants_second self wish }
     {
-        match wish {
-            Some(port) => self.second_leads_to(port),
-            None => false,
-        }
+        wish.is_some_and(|port| self.second_leads_to(port))
     }
 
     // Whether the two inputs cross on their way to the outputs.
@@ -77,6 +74,7 @@ impl Block {
     }
 
     // The winner leaves by the output that leads to its wish, or by the first, and the loser by the other.
+    #[tactic(auto, using(crate::proofs::Blocks::block_lawful))]
     fn pass(self, first: Lane, second: Lane, draw: bool) -> (Lane, Lane)
         ensures value { result ≡ passed self draw first second }
         ensures law { BlockLaw self draw first second result }
@@ -108,46 +106,36 @@ impl Switch for Chipper {
         ensures value { result ≡ turned (chipper_turn (handed places wishes golden draws)) places }
         ensures blocks { ChipperLaw (handed places wishes golden draws) result }
     {
-        let n = Lane::new(places[0], wishes[0], golden);
-        let e = Lane::new(places[1], wishes[1], golden);
-        let s = Lane::new(places[2], wishes[2], golden);
-        let w = Lane::new(places[3], wishes[3], golden);
-        let (n, e) = Block::Entry.pass(n, e, draws[0]);
-        let (s, w) = Block::Entry.pass(s, w, draws[1]);
-        let (n, s) = Block::NorthSouth.pass(n, s, draws[2]);
-        let (e, w) = Block::EastWest.pass(e, w, draws[3]);
+        let [n, e, s, w] = places;
+        let [n_wish, e_wish, s_wish, w_wish] = wishes;
+        let [draw_1, draw_2, draw_3, draw_4] = draws;
+        let n = Lane::new(n, n_wish, golden);
+        let e = Lane::new(e, e_wish, golden);
+        let s = Lane::new(s, s_wish, golden);
+        let w = Lane::new(w, w_wish, golden);
+        let (n, e) = Block::Entry.pass(n, e, draw_1);
+        let (s, w) = Block::Entry.pass(s, w, draw_2);
+        let (n, s) = Block::NorthSouth.pass(n, s, draw_3);
+        let (e, w) = Block::EastWest.pass(e, w, draw_4);
         [n.flit, e.flit, s.flit, w.flit]
     }
 }
 
 #[cfg(test)]
 mod tests {
-    use super::*;
-
-    const GOLDEN: u16 = 9;
-
-    #[derive(Clone, Copy)]
-    struct Case {
-        places: [Option<Flit>; 4],
-        wishes: [Option<Port>; 4],
-        draws: [bool; 4],
-        out: [Option<Flit>; 4],
-    }
-
-    fn flit(ticket: u16, number: u8, word: u32) -> Option<Flit> {
-        Some(Flit {
-            ticket,
-            number,
-            destination: 0,
-            word,
-            entered: 0,
-        })
-    }
+    use super::Chipper;
+    use crate::cases::{Case, GOLDEN, flit};
+    use fabric::parts::Port;
 
     #[test]
     fn table(rt: HostRuntime) {
-        let [a, b, c, d] = [flit(1, 0, 0), flit(2, 0, 0), flit(3, 0, 0), flit(4, 0, 0)];
-        let [low, high, twin] = [flit(GOLDEN, 0, 0), flit(GOLDEN, 1, 0), flit(GOLDEN, 1, 7)];
+        let [a, b] = [flit(1, 0, 0, 0), flit(2, 0, 0, 0)];
+        let [c, d] = [flit(3, 0, 0, 0), flit(4, 0, 0, 0)];
+        let [low, high, twin] = [
+            flit(GOLDEN, 0, 0, 0),
+            flit(GOLDEN, 1, 0, 0),
+            flit(GOLDEN, 1, 0, 7),
+        ];
         let [n, e, s, w] = [Some(Port::N), Some(Port::E), Some(Port::S), Some(Port::W)];
         let cases = [
             // four ordinary flits: the first inputs win, then the second, then by block
@@ -185,11 +173,7 @@ mod tests {
             },
         ];
         for case in cases {
-            let golden = GOLDEN as usize;
-            assert_eq!(rt;
-                Chipper.route(case.places, case.wishes, golden, case.draws),
-                case.out
-            );
+            assert_eq!(rt; case.routed_by(&Chipper), case.out);
         }
     }
 }

@@ -2,6 +2,8 @@
 #![tactic(auto)]
 
 pub mod bless;
+#[cfg(test)]
+mod cases;
 pub mod chipper;
-mod rank;
+pub mod rank;
 pub mod switch;

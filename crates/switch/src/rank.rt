@@ -5,18 +5,18 @@ ghost use Rattle.switch.specs.Ranks.{rank_of, rank_at, gives_way};
 use fabric::parts::Flit;
 
 // The highest first.
-#[derive(Clone, Copy)]
-pub(crate) enum Rank {
+#[derive(Clone, Copy, PartialEq, Eq, PartialOrd, Ord)]
+pub enum Rank {
     // with the flit's number: the lower goes ahead
     Golden(u8),
     Ordinary,
 }
 
 impl Rank {
-    fn of(flit: Flit, golden: usize) -> Rank
+    pub fn of(flit: Flit, golden: usize) -> Rank
         ensures { result ≡ rank_of golden flit }
     {
-        if flit.ticket as usize == golden {
+        if usize::from(flit.ticket) == golden {
             Rank::Golden(flit.number)
         } else {
             Rank::Ordinary
@@ -27,10 +27,7 @@ impl Rank {
     pub(crate) fn at(place: Option<Flit>, golden: usize) -> Option<Rank>
         ensures { result ≡ rank_at golden place }
     {
-        match place {
-            Some(flit) => Some(Rank::of(flit, golden)),
-            None => None,
-        }
+        place.map(|flit| Rank::of(flit, golden))
     }
 }
 
@@ -41,9 +38,7 @@ pub(crate) fn gives_way(first: Option<Rank>, second: Option<Rank>, tie: bool) ->
     match (first, second) {
         (_, None) => false,
         (None, Some(_)) => true,
-        (Some(Rank::Golden(mine)), Some(Rank::Golden(theirs))) => theirs < mine,
-        (Some(Rank::Golden(_)), Some(Rank::Ordinary)) => false,
-        (Some(Rank::Ordinary), Some(Rank::Golden(_))) => true,
         (Some(Rank::Ordinary), Some(Rank::Ordinary)) => tie,
+        (Some(mine), Some(theirs)) => theirs < mine,
     }
 }

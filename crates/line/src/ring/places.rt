@@ -8,6 +8,7 @@ use super::Line;
 
 impl<'a, T: Copy> Line<'a, T> {
     // An empty line; whatever run of uses follows, what comes out is in the order of what went in.
+    #[tactic(auto, using(crate::proofs::Orders::first_out))]
     pub fn new(memory: &'a mut [T]) -> Line<'a, T>
         ensures queue { queue_of result ≡ empty memory.old }
         ensures runs { (run : List (Use T)) → FirstOut memory.old run }

@@ -1,23 +1,13 @@
-use Rattle.std.proofs.Common.{◌≡◌, ◌-◌, ◌<◌, ◌∷◌, get_or, sym, refl, ap, ◌∙◌, arith}
+use Rattle.std.proofs.Common.{◌≡◌, ◌-◌, ◌<◌, ◌∷◌, get_or, sym, ap, ◌∙◌, rules, arith}
 use Rattle.line.specs.Queues.{Queue, contents, first_of, place, take}
 use Rattle.line.specs.Runs.Use.{takes}
 use Rattle.line.specs.Lines.{queue_of}
-use Rattle.line.proofs.Contents.{nothing_held, take_contents}
+use Rattle.line.proofs.Contents.{take_contents}
 use Rattle.line.proofs.Orders.{take_some, take_none, continues}
 use Rattle.line.proofs.ring.Line.take.Goals as goal
 
-pub returns-then-self-eq0 : goal.returns-then-self-eq0
-returns-then-self-eq0 g c =
-    let q = queue_of c.args.self.now in
-    let n = nothing_held q c.if-self-eq0.true in
-    let u = sym (take_none q c.if-self-eq0.true) in
-    record {
-      answer = sym (ap first_of n);
-      queue = u;
-      contents = (n, n);
-      runs = continues q takes q u;
-      lender = refl {a = c.args.self.now.memory.ghost_name};
-    }
+pub returns-then-self-eq0-clause-runs : goal.returns-then-self-eq0-clause-runs
+returns-then-self-eq0-clause-runs g c = let q = queue_of c.args.self.now in continues q takes q (sym (take_none q c.if-self-eq0.true))
 
 pub returns : goal.returns
 returns g c =
@@ -32,8 +22,8 @@ returns g c =
     let k = take_contents q s.sound x h ∙ ap (λ t. get_or q.memory q.first x ∷ contents t) (sym e) in
     record {
       answer = sym (ap first_of k);
-      queue = u;
+      queue = search rules;
       contents = k;
       runs = continues q takes r u;
-      lender = refl {a = c.args.self.now.memory.ghost_name};
+      lender = search rules;
     }
