@@ -6,9 +6,9 @@ use Rattle.fabric.specs.declared.parts.Port.{Port}
 use Rattle.fabric.specs.declared.parts.Slot.{Slot}
 use Rattle.cabled.specs.Cables.{Least, Means}
 use Rattle.cabled.specs.Levels.{Way, Nearest, Level}
-use Rattle.cabled.specs.Tables.{far_at, next_at, distance_at, leads, first, wish_at, cabled_plan, Wired, Nearing}
+use Rattle.cabled.specs.Tables.{far_at, next_at, distance_at, leads, first, wish_at, cabled_plan, Paired, Wired, Nearing}
 use Rattle.cabled.specs.Laws.{Pick, pick, far_in, distance_in, wished}
-use Rattle.cabled.proofs.Plugs.{return, ends, led, there, paired}
+use Rattle.cabled.proofs.Plugs.{return, ends, led, there}
 use Rattle.cabled.proofs.Walks.{least, joined}
 
 some_first : (f : Port → Bool) (p : Port) → f p ≡ true → is_some (first f) ≡ true
@@ -19,7 +19,7 @@ some_first f p e = go (first f) (pick f)
     go None h = absurd (both_ways _ (h p) e)
 
 module _ (k : ℕ) (few : k ≤ 64) (cs : List Cable) (ts : List (Option Slot)) (ds : List (List ℕ)) (w : Wired k (length cs) cs ts)
-    (ways : (m : ℕ) → m < k → (j : ℕ) × Way (next_at ts) 0 j m)
+    (paired : Paired k ts) (ways : (m : ℕ) → m < k → (j : ℕ) × Way (next_at ts) 0 j m)
     (levels : (n : ℕ) → n < k → (m : ℕ) → m < k → Level (next_at ts) n m (distance_at ds m n)) where
   pub nearest : (m n : ℕ) → m < k → n < k → (distance_at ds m n < 64) × Nearest (next_at ts) n m (distance_at ds m n)
   nearest m n p q =
@@ -35,7 +35,7 @@ module _ (k : ℕ) (few : k ≤ 64) (cs : List Cable) (ts : List (Option Slot)) 
       some zero h e f = absurd (f h.0)
       some (suc j) h e f =
           let p = h.0.0 in
-          let b = (nearest (next_at ts m p) n (paired k few cs ts w (record { node = m; port = p }) l.0).0 l.1).1 in
+          let b = (nearest (next_at ts m p) n (paired (record { node = m; port = p }) l.0).0 l.1).1 in
           some_first (leads ts ds m n) p (eq-eqb _ _ (omega (arith, b.1 j h.0.1, h.1 (suc (distance_at ds (next_at ts m p) n)) (p, b.0))))
 
       other : (m ≡ n → ⊥) → cond (eqb m n) (eqb (distance_at ds m n) 0) (is_some (wish_at ts ds m n)) ≡ true
@@ -52,5 +52,5 @@ module _ (k : ℕ) (few : k ≤ 64) (cs : List Cable) (ts : List (Option Slot)) 
     distance = λ m n p q. subst (Least cs m n) (sym (distance_in k ts ds r m n p q)) (least k few cs ts w m n (distance_at ds m n) p (nearest m n p q).1);
     within = λ m n p q. omega (arith, distance_in k ts ds r m n p q, within n q m p);
     met = let m = met.2 in (m.0, met.0, m.1, met.1, distance_in k ts ds r m.0 met.0 m.1 met.1 ∙ m.2);
-    wish = wished k ts ds r (paired k few cs ts w) nearing;
+    wish = wished k ts ds r paired nearing;
   }

@@ -52,10 +52,6 @@ cabled_plan k ts ds r = record {
 abbrev pub Paired : ℕ → List (Option Slot) → Type 0
 Paired k ts = (s : Slot) → s.node < k → ((far_at ts s).node < k) × (far_at ts (far_at ts s) ≡ s)
 
--- each port of the k nodes leads to one of them
-abbrev pub Inside : ℕ → List (Option Slot) → Type 0
-Inside k ts = (u : ℕ) (p : Port) → u < k → next_at ts u p < k
-
 -- each distance of the k nodes is at most r
 abbrev pub Within : ℕ → List (List ℕ) → ℕ → Type 0
 Within k ds r = (m n : ℕ) → (m < k) × (n < k) → distance_at ds m n ≤ r
