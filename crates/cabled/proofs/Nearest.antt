@@ -1,7 +1,7 @@
 -- The rounds find the fewest steps.
-use Rattle.std.proofs.Common.{◌≡◌, ℕ, zero, suc, ◌+◌, ◌-◌, ◌<◌, ◌≤◌, Bool, true, cond, ◌&&◌, ◌||◌, eqb, ltb, ◌⊎◌, get_or, set, replicate, sym, refl, ap, ◌∙◌, subst, inl, inr, ⊎_elim, add-one, arith}
+use Rattle.std.proofs.Common.{◌≡◌, ℕ, zero, suc, ◌+◌, ◌-◌, ◌<◌, ◌≤◌, Bool, true, false, cond, ◌&&◌, ◌||◌, eqb, ltb, ◌⊎◌, get_or, set, replicate, sym, refl, ap, ◌∙◌, subst, inl, inr, ⊎_elim, add-one, arith}
 use Rattle.std.proofs.lemmas.List.{get_or-set_same, get_or-set_other, get_or-replicate, length-replicate}
-use Rattle.std.proofs.lemmas.Bool.{eqb-true, eq-eqb, lt-ltb, le-ltb, cond-true, cond-false, cond_both, both_ways, and_from, and_parts, or_cases, or_left, or_right, cases_eq, cases_lt}
+use Rattle.std.proofs.lemmas.Bool.{eqb-true, eq-eqb, lt-ltb, le-ltb, cond-true, cond-false, cond_both, both_ways, false≢true, and_from, and_parts, or_cases, or_left, or_right, cases_eq, cases_lt}
 use Rattle.fabric.specs.declared.parts.Port.{Port}
 use Rattle.fabric.specs.declared.parts.Port.TheVariants.{N, E, S, W}
 use Rattle.cabled.specs.Levels.{any, again, Way, Nearest, Found, Level}
@@ -9,14 +9,17 @@ use Rattle.cabled.specs.Levels.{any, again, Way, Nearest, Found, Level}
 any_some : (f : Port → Bool) → any f ≡ true → (p : Port) × (f p ≡ true)
 any_some f e =
     ⊎_elim (λ a. (N, a))
-    (λ r. ⊎_elim (λ a. (E, a)) (λ q. ⊎_elim (λ a. (S, a)) (λ a. (W, a)) (or_cases (f S) (f W) q)) (or_cases (f E) (f S || f W) r))
-    (or_cases (f N) (f E || (f S || f W)) e)
+    (λ r.
+    ⊎_elim (λ a. (E, a))
+    (λ q. ⊎_elim (λ a. (S, a)) (λ w. ⊎_elim (λ a. (W, a)) (λ a. absurd (false≢true a)) (or_cases (f W) false w)) (or_cases (f S) (f W || false) q))
+    (or_cases (f E) (f S || (f W || false)) r))
+    (or_cases (f N) (f E || (f S || (f W || false))) e)
 
 some_any : (f : Port → Bool) (p : Port) → f p ≡ true → any f ≡ true
 some_any f N e = or_left _ _ e
 some_any f E e = or_right (f N) _ (or_left _ _ e)
 some_any f S e = or_right (f N) _ (or_right (f E) _ (or_left _ _ e))
-some_any f W e = or_right (f N) _ (or_right (f E) _ (or_right (f S) _ e))
+some_any f W e = or_right (f N) _ (or_right (f E) _ (or_right (f S) _ (or_left _ _ e)))
 
 -- the numbers other than v, moved together
 without : ℕ → ℕ → ℕ

@@ -1,10 +1,11 @@
 -- How many steps each node is from one, found in rounds. A step leaves a node by a port, so by one without a cable it stays.
-use Rattle.std.specs.Prelude.{◌≡◌, ℕ, zero, suc, ◌+◌, ◌<◌, ◌≤◌, Bool, cond, ◌&&◌, ◌||◌, ◌⊎◌, ◌==◌, nat_eq}
+use Rattle.std.specs.Prelude.{◌≡◌, ℕ, zero, suc, ◌+◌, ◌<◌, ◌≤◌, Bool, cond, ◌&&◌, ◌||◌, ◌⊎◌, ◌==◌, nat_eq, [], ◌∷◌}
+use Rattle.std.specs.List.{list_any}
 use Rattle.fabric.specs.declared.parts.Port.{Port}
 use Rattle.fabric.specs.declared.parts.Port.TheVariants.{N, E, S, W}
 
 abbrev pub any : (Port → Bool) → Bool
-any f = f N || (f E || (f S || f W))
+any f = list_any f (N ∷ E ∷ S ∷ W ∷ [])
 
 -- one round more: a node without a level beside one of level l has the level l + 1
 abbrev pub again : (ℕ → Port → ℕ) → (ℕ → ℕ) → ℕ → ℕ → ℕ

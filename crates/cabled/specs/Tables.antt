@@ -1,5 +1,6 @@
 -- What the tables of a cabled layout mean.
-use Rattle.std.specs.Prelude.{◌≡◌, ℕ, ◌+◌, ◌*◌, ◌<◌, ◌≤◌, Bool, true, cond, List, [], is_some, Some, None, Option, ◌==◌, ◌≢◌, nat_lt, slice_index, slice_index_or, slice_set}
+use Rattle.std.specs.Prelude.{◌≡◌, ℕ, ◌+◌, ◌*◌, ◌<◌, ◌≤◌, Bool, true, cond, List, [], ◌∷◌, is_some, Some, None, Option, ◌==◌, ◌≢◌, nat_lt, slice_index, slice_index_or, slice_set}
+use Rattle.std.specs.List.{find}
 use Rattle.std.specs.Option.{unwrap_or}
 use Rattle.fabric.specs.declared.parts.Cable.{Cable}
 use Rattle.fabric.specs.declared.parts.Port.{Port}
@@ -34,7 +35,7 @@ leads ts ds m n p = distance_at ds (next_at ts m p) n + 1 == distance_at ds m n
 
 -- the first of E, W, N, S that passes
 abbrev pub first : (Port → Bool) → Option Port
-first f = cond (f E) (Some E) (cond (f W) (Some W) (cond (f N) (Some N) (cond (f S) (Some S) None)))
+first f = find f (E ∷ W ∷ N ∷ S ∷ [])
 
 abbrev pub wish_at : List (Option Slot) → List (List ℕ) → ℕ → ℕ → Option Port
 wish_at ts ds m n = first (leads ts ds m n)

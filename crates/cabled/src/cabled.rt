@@ -10,6 +10,9 @@ use fabric::layout::Layout;
 use fabric::parts::{Cable, Port, Slot};
 use fabric::refusal::Refusal;
 
+// The order in which ports are tried for a wish.
+const WISHES: [Port; 4] = [Port::E, Port::W, Port::N, Port::S];
+
 // The layout that a list of cables makes.
 #[derive(Clone, Copy)]
 pub struct Cabled {
@@ -100,17 +103,7 @@ impl Layout for Cabled {
         if from >= self.wiring.nodes || to >= self.wiring.nodes {
             return None;
         }
-        if self.leads(from, to, Port::E) {
-            Some(Port::E)
-        } else if self.leads(from, to, Port::W) {
-            Some(Port::W)
-        } else if self.leads(from, to, Port::N) {
-            Some(Port::N)
-        } else if self.leads(from, to, Port::S) {
-            Some(Port::S)
-        } else {
-            None
-        }
+        WISHES.iter().copied().find(|&port| self.leads(from, to, port))
     }
 
     fn reach(&self) -> usize {
@@ -132,8 +125,8 @@ mod tests {
     // Each node's E to the next node's W, and the last node's to the first.
     fn around() -> [Cable; NODES] {
         let mut cables = [cable(0, Port::E, 0, Port::W); NODES];
-        for node in 0..NODES {
-            cables[node] = cable(node, Port::E, (node + 1) % NODES, Port::W);
+        for (node, place) in cables.iter_mut().enumerate() {
+            *place = cable(node, Port::E, (node + 1) % NODES, Port::W);
         }
         cables
     }

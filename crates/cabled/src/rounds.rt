@@ -12,6 +12,8 @@ const MOST_STEPS: u8 = 63;
 // The level of a node for which no way is found.
 const NO_WAY: u8 = 64;
 
+const PORTS: [Port; 4] = [Port::N, Port::E, Port::S, Port::W];
+
 // For each node, the fewest steps to one node, or NO_WAY.
 type Levels = [u8; NODES];
 
@@ -51,10 +53,7 @@ impl Wiring {
         requires { node < self.now.nodes }
         ensures { result ≡ any (λ p. nat_eq (slice_index row.now (next_at self.now.ends node p)) level) }
     {
-        self.leads_to(row, node, Port::N, level)
-            || self.leads_to(row, node, Port::E, level)
-            || self.leads_to(row, node, Port::S, level)
-            || self.leads_to(row, node, Port::W, level)
+        PORTS.iter().any(|&port| self.leads_to(row, node, port, level))
     }
 
     // The node's level after one round more: beside a node of the last level it is one further.
