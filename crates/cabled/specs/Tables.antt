@@ -9,6 +9,7 @@ use Rattle.fabric.specs.declared.parts.Slot.{Slot}
 use Rattle.fabric.specs.Layouts.{Plan, both}
 use Rattle.fabric.specs.Ports.{place_of}
 use Rattle.cabled.specs.Cables.{AllGood, Joined}
+use Rattle.cabled.specs.Levels.{Steps}
 
 -- the place of a slot in a table that has four for each node
 abbrev pub index : Slot → ℕ
@@ -60,6 +61,12 @@ Within k ds r = (m n : ℕ) → (m < k) × (n < k) → distance_at ds m n ≤ r
 -- a node has distance 0 to itself, and to any other of the k nodes a port leads one nearer
 abbrev pub Nearing : ℕ → List (Option Slot) → List (List ℕ) → Type 0
 Nearing k ts ds = (m n : ℕ) → (m < k) × (n < k) → cond (m == n) (distance_at ds m n == 0) (is_some (wish_at ts ds m n)) ≡ true
+
+-- the distances between all k nodes are the fewest steps, and r is the greatest of them
+pub record Measured (k : ℕ) (ts : List (Option Slot)) (ds : List (List ℕ)) (r : ℕ) : Type 0 where
+  pub exact : (m n : ℕ) → (m < k) × (n < k) → Steps (next_at ts) n m (distance_at ds m n)
+  pub within : Within k ds r
+  pub met : (m n : ℕ) × (m < k) × (n < k) × (distance_at ds m n ≡ r)
 
 -- a port of the k nodes is without a cable
 abbrev pub Free : ℕ → List (Option Slot) → Slot → Type 0

@@ -48,10 +48,7 @@ impl Cabled {
             return Err(Refusal::Nodes);
         }
         let wiring = Wiring::new(nodes, cables)?;
-        if let Some(node) = wiring.cut_off() {
-            return Err(Refusal::Unreached(node));
-        }
-        let Spans { distances, reach } = wiring.measure();
+        let Spans { distances, reach } = wiring.measure()?;
         *self = Cabled {
             wiring,
             distances,

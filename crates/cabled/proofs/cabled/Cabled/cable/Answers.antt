@@ -1,7 +1,8 @@
 use Rattle.std.proofs.Common.{⊎_elim, arith}
 use Rattle.std.proofs.lemmas.Result.{err_from_is_err_and}
 use Rattle.cabled.specs.Cables.Cabling.{unfair, bad, unreached, cabled}
-use Rattle.cabled.proofs.Meaning.{nearest, nearing, means}
+use Rattle.cabled.specs.Tables.{distance_at}
+use Rattle.cabled.proofs.Meaning.{nearing, means}
 use Rattle.cabled.proofs.Walks.{reverse, walk, way}
 use Rattle.cabled.proofs.cabled.Cabled.cable.Goals as goal
 
@@ -14,25 +15,25 @@ returns-in_err-wiring c =
     let h = c.in_err-wiring.ensures in
     rw (p.1, p.2, h.1) (bad (omega arith, omega arith) h.0 h.2 h.3 h.4)
 
-pub returns-in-Some : goal.returns-in-Some
-returns-in-Some c =
+pub returns-in_err-distances : goal.returns-in_err-distances
+returns-in_err-distances c =
     let x = c.in_ok-wiring.wiring in
+    let p = err_from_is_err_and c.from_residual-in_err-distances.result c.from_residual-in_err-distances.ensures.1 in
     let h = c.in_ok-wiring.ensures in
-    let u = c.in-Some.ensures in
-    rw (← h.0) (unreached x.fair h.1.good c.in-Some.node u.0 (λ j v. let r = reverse v in u.1 r.0 (way x.nodes x.fair.1 c.args.cables.now x.ends h.1 r.1)))
+    let u = c.in_err-distances.ensures in
+    rw (p.1, p.2, u.1, ← h.0)
+    (unreached x.fair h.1.good u.0 u.2 (λ j v. let r = reverse v in u.3 r.0 (way x.nodes x.fair.1 c.args.cables.now x.ends h.1 r.1)))
 
 pub invariant_of-self : goal.invariant_of-self
 invariant_of-self c =
     let x = c.in_ok-wiring.wiring in
-    let cs = c.args.cables.now in
-    let ds = c.measure-reach.result.distances in
-    let w = c.in_ok-wiring.ensures.1 in
-    let spans = c.measure-reach.ensures in
-    let met = spans.met in
+    let s = c.in_ok-distances.field-0 in
+    let measured = c.in_ok-distances.ensures in
+    let met = measured.met in
     record {
-      near = omega (arith, met.2.2, (nearest x.nodes x.fair.1 cs x.ends ds w x.paired c.in_default.ensures spans.exact met.2.0 met.0 met.2.1 met.1).0);
-      within = λ m n l. spans.within n l.1 m l.0;
-      nearing = nearing x.nodes x.fair.1 cs x.ends ds w x.paired c.in_default.ensures spans.exact;
+      near = omega (arith, met.4, (measured.exact met.0 met.1 (met.2, met.3)).0);
+      within = measured.within;
+      nearing = nearing x.nodes x.fair.1 c.args.cables.now x.ends s.distances s.reach c.in_ok-wiring.ensures.1 x.paired measured;
     }
 
 pub returns : goal.returns
@@ -41,9 +42,9 @@ returns c =
     let k = x.nodes in
     let cs = c.args.cables.now in
     let h = c.in_ok-wiring.ensures in
-    let ways = c.in_default.ensures in
-    let s = c.measure-reach.result in
-    let spans = c.measure-reach.ensures in
+    let s = c.in_ok-distances.field-0 in
+    let measured = c.in_ok-distances.ensures in
     rw (← h.0)
-    (cabled x.fair h.1.good (λ n l cut. let r = reverse (walk k x.fair.1 cs x.ends h.1 0 (ways n l).0 n l (ways n l).1).2 in cut r.0 r.1)
-    (means k x.fair.1 cs x.ends s.distances h.1 x.paired ways spans.exact s.reach spans.within spans.met))
+    (cabled x.fair h.1.good
+    (λ n l cut. let r = reverse (walk k x.fair.1 cs x.ends h.1 0 (distance_at s.distances n 0) n l (measured.exact n 0 (l, x.fair.0)).1.0).2 in cut r.0 r.1)
+    (means k x.fair.1 cs x.ends s.distances s.reach h.1 x.paired measured))

@@ -1,4 +1,4 @@
-use Rattle.std.proofs.Common.{◌≡◌, get_or, ◌∙◌, arith}
+use Rattle.std.proofs.Common.{◌≡◌, get_or, None, ◌∙◌, arith}
 use Rattle.std.proofs.lemmas.List.{length-set}
 use Rattle.cabled.specs.Levels.{again}
 use Rattle.cabled.specs.Tables.{next_at}
@@ -11,5 +11,5 @@ loop-node-preserved c =
     let row = c.loop-node.row in
     let r = c.raised.result in (
       length-set row n r ∙ c.loop-node.invariant.0,
-      set_more (λ u x. x ≡ again (next_at c.args.self.now.ends) (λ v. get_or c.args.before.now v 0) c.args.level u) 0 row n r (omega arith) c.loop-node.invariant.1 c.raised.ensures,
+      set_more (λ u x. x ≡ again (next_at c.args.self.now.ends) (λ v. get_or c.args.before.now v None) c.args.level u) None row n r (omega arith) c.loop-node.invariant.1 c.raised.ensures,
     )
