@@ -6,7 +6,7 @@ use Rattle.std.specs.Bool.{then_some}
 use Rattle.std.specs.Option.{option_or}
 use Rattle.fabric.specs.declared.parts.Port.{Port}
 use Rattle.fabric.specs.declared.parts.Port.TheVariants.{N, E, S, W}
-use Rattle.cabled.specs.Levels.{any, at, again, Way, Nearest, Found, Level}
+use Rattle.cabled.specs.Levels.{any, at, again, Way, Found, Level}
 
 any_some : (f : Port → Bool) → any f ≡ true → (p : Port) × (f p ≡ true)
 any_some f e =

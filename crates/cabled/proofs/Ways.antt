@@ -1,5 +1,5 @@
 -- Ways through the ports of a table in which each port leads back.
-use Rattle.std.proofs.Common.{◌≡◌, ℕ, zero, suc, ◌<◌, List, Option, sym, ap, subst}
+use Rattle.std.proofs.Common.{ℕ, zero, suc, ◌<◌, List, Option, sym, ap, subst}
 use Rattle.fabric.specs.declared.parts.Port.{Port}
 use Rattle.fabric.specs.declared.parts.Slot.{Slot}
 use Rattle.cabled.specs.Levels.{Way}

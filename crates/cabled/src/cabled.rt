@@ -100,7 +100,10 @@ impl Layout for Cabled {
         if from >= self.wiring.nodes || to >= self.wiring.nodes {
             return None;
         }
-        WISHES.iter().copied().find(|&port| self.leads(from, to, port))
+        WISHES
+            .iter()
+            .copied()
+            .find(|&port| self.leads(from, to, port))
     }
 
     fn reach(&self) -> usize {

@@ -45,7 +45,9 @@ impl Wiring {
         requires { node < self.now.nodes }
         ensures { result ≡ any (λ p. at level (slice_index_or row.now (next_at self.now.ends node p) None)) }
     {
-        PORTS.iter().any(|&port| self.leads_to(row, node, port, level))
+        PORTS
+            .iter()
+            .any(|&port| self.leads_to(row, node, port, level))
     }
 
     // The node's level after one round more: beside a node of the last level it is one further.

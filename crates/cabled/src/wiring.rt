@@ -33,7 +33,8 @@ impl Wiring {
     // Nodes without cables.
     pub(crate) fn bare(nodes: usize) -> Wiring
         requires { Fair nodes }
-        ensures { (result.nodes ≡ nodes) × (result.ends ≡ replicate 256 None) }
+        ensures nodes { result.nodes ≡ nodes }
+        ensures ends { result.ends ≡ replicate 256 None }
     {
         Wiring {
             nodes,
@@ -59,7 +60,8 @@ impl Wiring {
     // The slot to which a port leads: the other end of its cable, or its own.
     pub(crate) fn far(&self, slot: Slot) -> Slot
         requires { slot.node < self.now.nodes }
-        ensures { (result ≡ far_at self.now.ends slot) × (result.node < self.now.nodes) }
+        ensures led { result ≡ far_at self.now.ends slot }
+        ensures inside { result.node < self.now.nodes }
     {
         self.ends[place(slot)].unwrap_or(slot)
     }
@@ -81,7 +83,8 @@ impl Wiring {
     // Puts the cable in.
     fn plug(&mut self, cable: Cable)
         requires { Fits self.old.nodes self.old.ends cable }
-        ensures { (self.new.nodes ≡ self.old.nodes) × (self.new.ends ≡ plugged self.old.ends cable) }
+        ensures nodes { self.new.nodes ≡ self.old.nodes }
+        ensures ends { self.new.ends ≡ plugged self.old.ends cable }
     {
         self.ends[place(cable.one)] = Some(cable.other);
         self.ends[place(cable.other)] = Some(cable.one);

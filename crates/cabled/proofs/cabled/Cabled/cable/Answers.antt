@@ -7,7 +7,7 @@ use Rattle.cabled.proofs.Walks.{reverse, walk, way}
 use Rattle.cabled.proofs.cabled.Cabled.cable.Goals as goal
 
 pub returns-then-nodes-eq0 : goal.returns-then-nodes-eq0
-returns-then-nodes-eq0 c = unfair (λ f. ⊎_elim (λ e. omega arith) (λ e. omega (arith, e.1)) c.then-nodes-eq0.either)
+returns-then-nodes-eq0 c = unfair (λ f. ⊎_elim (λ e. omega arith) (λ e. omega arith) c.then-nodes-eq0.either)
 
 pub returns-in_err-wiring : goal.returns-in_err-wiring
 returns-in_err-wiring c =

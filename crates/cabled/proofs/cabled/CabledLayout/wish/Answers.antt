@@ -1,7 +1,7 @@
-use Rattle.std.proofs.Common.{[], ◌∷◌, rules, tests, ◌≡◌, sym, ◌∙◌}
+use Rattle.std.proofs.Common.{[], ◌∷◌, rules, tests, sym, ◌∙◌}
 use Rattle.std.proofs.lemmas.Bool.{lt-ltb, and_from, cond-true}
 use Rattle.std.proofs.lemmas.Iterator.{YieldsList-from_slice}
-use Rattle.std.proofs.lemmas.Iterator.Consumers.{YieldsList-from_copied, YieldsList-at}
+use Rattle.std.proofs.lemmas.Iterator.Consumers.{YieldsList-from_copied}
 use Rattle.std.proofs.lemmas.Iterator.Search.{find_from_yields_List}
 use Rattle.std.proofs.lemmas.Iterator.Adapters.{option_map_id}
 use Rattle.fabric.specs.declared.parts.Port.TheVariants.{N, E, S, W}

@@ -40,7 +40,7 @@ loop-to-preserved c =
       length-set ds t row ∙ inv.0,
       set_more (λ n r. (m : ℕ) → m < w.nodes → Steps (next_at w.ends) n m (get_or r m 0)) [] ds t row low inv.1 c.in_ok-row.ensures,
       set_more (λ n r. (m : ℕ) → m < w.nodes → get_or r m 0 ≤ reach) [] ds t row low (λ n l m p. omega (arith, inv.2 n l m p))
-      (λ m p. omega (arith, get_or-take w.nodes row m 0 p, within some m (omega (arith, long)))),
+          (λ m p. omega (arith, get_or-take w.nodes row m 0 p, within some m (omega (arith, long)))),
       omega arith,
       (λ _.
           ⊎_elim
@@ -53,15 +53,3 @@ loop-to-preserved c =
           (t, omega arith, set_here Met [] ds t row low (o.0, l, omega (arith, o.2, get_or-take w.nodes row o.0 0 l))))
           (cases_lt c.greatest.result c.loop-to.reach)),
     )
-
-pub returns : goal.returns
-returns c =
-    let inv = c.loop-to.invariant in
-    let few = c.args.self.now.fair in
-    let done : c.loop-to.to ≡ c.args.self.now.nodes = omega arith in
-    let m = inv.4 (omega arith) in
-    record {
-      exact = λ m n l. inv.1 n (omega (arith, l.1)) m l.0;
-      within = λ m n l. inv.2 n (omega (arith, l.1)) m l.0;
-      met = (m.2.0, m.0, m.2.1, omega (arith, m.1), m.2.2);
-    }
