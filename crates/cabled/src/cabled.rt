@@ -11,7 +11,7 @@ use fabric::parts::{Cable, Port, Slot};
 use fabric::refusal::Refusal;
 
 // The order in which ports are tried for a wish.
-const WISHES: [Port; 4] = [Port::E, Port::W, Port::N, Port::S];
+const WISH_ORDER: [Port; 4] = [Port::E, Port::W, Port::N, Port::S];
 
 // The layout that a list of cables makes.
 #[derive(Clone, Copy)]
@@ -100,7 +100,7 @@ impl Layout for Cabled {
         if from >= self.wiring.nodes || to >= self.wiring.nodes {
             return None;
         }
-        WISHES
+        WISH_ORDER
             .iter()
             .copied()
             .find(|&port| self.leads(from, to, port))
