@@ -4,3 +4,5 @@ mod Meaning
 mod Nearest
 mod Plugs
 mod Walks
+mod Ways
+mod Greatest

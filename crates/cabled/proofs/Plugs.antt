@@ -8,7 +8,7 @@ use Rattle.fabric.specs.declared.parts.Port.TheVariants.{N, E, S, W}
 use Rattle.fabric.specs.declared.parts.Slot.{Slot}
 use Rattle.fabric.specs.Ports.{place_of}
 use Rattle.cabled.specs.Cables.{cable_at, Runs, Joined, Good}
-use Rattle.cabled.specs.Tables.{index, end_at, far_at, Inside, Paired, Wired, Free, Fits, plugged}
+use Rattle.cabled.specs.Tables.{index, end_at, far_at, next_at, Paired, Wired, Free, Fits, plugged}
 
 port_at : ℕ → Port
 port_at n = cond (eqb n 0) N (cond (eqb n 1) E (cond (eqb n 2) S W))
@@ -57,7 +57,19 @@ turned c s t (inr h) = inl (h.1, h.0)
 pub return : (cs : List Cable) (n : ℕ) (s t : Slot) → Joined cs n s t → Joined cs n t s
 return cs n s t j = (j.0, j.1, turned (cable_at cs j.0) s t j.2)
 
+pub inside : (k : ℕ) (ts : List (Option Slot)) → Paired k ts → (u : ℕ) (p : Port) → u < k → next_at ts u p < k
+inside k ts paired u p l = (paired (record { node = u; port = p }) l).0
+
 -- without cables
+pub paired_none : (k : ℕ) → k ≤ 64 → Paired k (replicate 256 None)
+paired_none k few s l = both (far_at (replicate 256 None) s) (ap (λ o. unwrap_or o s) (get_or-replicate 256 (index s) None None (index_lt s (omega arith))))
+  where
+    both : (t : Slot) → t ≡ s → (t.node < k) × (far_at (replicate 256 None) t ≡ s)
+    both t e = (omega (arith, ap (λ (x : Slot). x.node) e), ap (far_at (replicate 256 None)) e ∙ own)
+      where
+        own : far_at (replicate 256 None) s ≡ s
+        own = ap (λ o. unwrap_or o s) (get_or-replicate 256 (index s) None None (index_lt s (omega arith)))
+
 pub wired_none : (k : ℕ) (cs : List Cable) → Wired k 0 cs (replicate 256 None)
 wired_none k cs = record {
   good = λ i l. absurd (omega arith);
@@ -73,51 +85,81 @@ good_fits k i few cs ts w g = (g.two, free _ _ (inl (refl, refl)), free _ _ (inr
     free s t r = let l = g.there s t r in (l, none_if (end_at ts s) (λ u e. g.fresh s t u r (w.only s u (omega arith) e)))
 
 -- one cable more
-module _ (k i : ℕ) (few : k ≤ 64) (cs : List Cable) (ts : List (Option Slot)) (long : length ts ≡ 256) (w : Wired k i cs ts) (fits : Fits k ts (cable_at cs i)) where
-  abbrev a : Slot
-  a = (cable_at cs i).one
-
-  abbrev b : Slot
-  b = (cable_at cs i).other
-
+module _ (k : ℕ) (few : k ≤ 64) (c : Cable) (ts : List (Option Slot)) (long : length ts ≡ 256) (fits : Fits k ts c) where
   abbrev after : List (Option Slot)
-  after = plugged ts (cable_at cs i)
+  after = plugged ts c
 
-  at_a : end_at after a ≡ Some b
-  at_a =
-      get_or-set_other (set ts (index a) (Some b)) (index b) (index a) (Some a) None (λ e. fits.0 (index_inj a b e))
-      ∙ get_or-set_same ts (index a) (Some b) None (omega (arith, index_lt a (omega (arith, fits.1.0))))
+  at_one : end_at after c.one ≡ Some c.other
+  at_one =
+      get_or-set_other (set ts (index c.one) (Some c.other)) (index c.other) (index c.one) (Some c.one) None (λ e. fits.0 (index_inj c.one c.other e))
+      ∙ get_or-set_same ts (index c.one) (Some c.other) None (omega (arith, index_lt c.one (omega (arith, fits.1.0))))
 
-  at_b : end_at after b ≡ Some a
-  at_b = get_or-set_same (set ts (index a) (Some b)) (index b) (Some a) None (omega (arith, index_lt b (omega (arith, fits.2.0)), length-set ts (index a) (Some b)))
+  at_other : end_at after c.other ≡ Some c.one
+  at_other =
+      get_or-set_same (set ts (index c.one) (Some c.other)) (index c.other) (Some c.one) None
+      (omega (arith, index_lt c.other (omega (arith, fits.2.0)), length-set ts (index c.one) (Some c.other)))
 
-  at_rest : (s : Slot) → (s ≡ a → ⊥) → (s ≡ b → ⊥) → end_at after s ≡ end_at ts s
+  at_rest : (s : Slot) → (s ≡ c.one → ⊥) → (s ≡ c.other → ⊥) → end_at after s ≡ end_at ts s
   at_rest s p q =
-      get_or-set_other (set ts (index a) (Some b)) (index b) (index s) (Some a) None (λ e. q (index_inj s b e))
-      ∙ get_or-set_other ts (index a) (index s) (Some b) None (λ e. p (index_inj s a e))
+      get_or-set_other (set ts (index c.one) (Some c.other)) (index c.other) (index s) (Some c.one) None (λ e. q (index_inj s c.other e))
+      ∙ get_or-set_other ts (index c.one) (index s) (Some c.other) None (λ e. p (index_inj s c.one e))
+
+  abbrev Leads : Slot → Slot → Type 0
+  Leads s t = far_at after s ≡ t
+
+  leads_rest : (s : Slot) → (s ≡ c.one → ⊥) → (s ≡ c.other → ⊥) → Leads s (far_at ts s)
+  leads_rest s p q = ap (λ o. unwrap_or o s) (at_rest s p q)
+
+  both : (s t : Slot) → t.node < k → Leads s t → Leads t s → ((far_at after s).node < k) × Leads (far_at after s) s
+  both s t l e f = (omega (arith, ap (λ (x : Slot). x.node) e), ap (far_at after) e ∙ f)
+
+  pub paired_more : Paired k ts → Paired k after
+  paired_more paired s l = go (cases_slot s c.one) (cases_slot s c.other)
+    where
+      one_other : Leads c.one c.other
+      one_other = ap (λ o. unwrap_or o c.one) at_one
+
+      other_one : Leads c.other c.one
+      other_one = ap (λ o. unwrap_or o c.other) at_other
+
+      -- a port without a cable leads to itself, so no other leads there
+      apart : (t : Slot) → end_at ts t ≡ None → (s ≡ t → ⊥) → far_at ts s ≡ t → ⊥
+      apart t e p f = p (sym (paired s l).1 ∙ ap (far_at ts) f ∙ ap (λ o. unwrap_or o t) e)
+
+      go : (s ≡ c.one) ⊎ (s ≡ c.one → ⊥) → (s ≡ c.other) ⊎ (s ≡ c.other → ⊥) → ((far_at after s).node < k) × Leads (far_at after s) s
+      go (inl p) q = both s c.other fits.2.0 (ap (far_at after) p ∙ one_other) (other_one ∙ sym p)
+      go (inr p) (inl q) = both s c.one fits.1.0 (ap (far_at after) q ∙ other_one) (one_other ∙ sym q)
+      go (inr p) (inr q) =
+          both s (far_at ts s) (paired s l).0 (leads_rest s p q)
+          (leads_rest (far_at ts s) (apart c.one fits.1.1 p) (apart c.other fits.2.1 q) ∙ (paired s l).1)
+
+-- one of the cables more
+module _ (k i : ℕ) (few : k ≤ 64) (cs : List Cable) (ts : List (Option Slot)) (long : length ts ≡ 256) (w : Wired k i cs ts) (fits : Fits k ts (cable_at cs i)) where
+  abbrev c : Cable
+  c = cable_at cs i
 
   -- an end of the new cable is free
-  free : (s t : Slot) → Runs (cable_at cs i) s t → Free k ts s
+  free : (s t : Slot) → Runs c s t → Free k ts s
   free s t (inl h) = subst (Free k ts) h.0 fits.1
   free s t (inr h) = subst (Free k ts) h.0 fits.2
 
-  new : (s t : Slot) → Runs (cable_at cs i) s t → end_at after s ≡ Some t
-  new s t (inl h) = ap (end_at after) (sym h.0) ∙ at_a ∙ ap Some h.1
-  new s t (inr h) = ap (end_at after) (sym h.0) ∙ at_b ∙ ap Some h.1
+  new : (s t : Slot) → Runs c s t → end_at (plugged ts c) s ≡ Some t
+  new s t (inl h) = ap (end_at (plugged ts c)) (sym h.0) ∙ at_one k few c ts long fits ∙ ap Some h.1
+  new s t (inr h) = ap (end_at (plugged ts c)) (sym h.0) ∙ at_other k few c ts long fits ∙ ap Some h.1
 
-  old : (s t : Slot) → end_at ts s ≡ Some t → end_at after s ≡ Some t
+  old : (s t : Slot) → end_at ts s ≡ Some t → end_at (plugged ts c) s ≡ Some t
   old s t e =
-      at_rest s (λ p. none_some (end_at ts s) t (ap (end_at ts) p ∙ fits.1.1) e) (λ p. none_some (end_at ts s) t (ap (end_at ts) p ∙ fits.2.1) e) ∙ e
+      at_rest k few c ts long fits s (λ p. none_some (end_at ts s) t (ap (end_at ts) p ∙ fits.1.1) e) (λ p. none_some (end_at ts s) t (ap (end_at ts) p ∙ fits.2.1) e) ∙ e
 
-  only_more : (s t : Slot) → s.node < 64 → end_at after s ≡ Some t → Joined cs (i + 1) s t
-  only_more s t l e = go (cases_slot s a) (cases_slot s b)
+  only_more : (s t : Slot) → s.node < 64 → end_at (plugged ts c) s ≡ Some t → Joined cs (i + 1) s t
+  only_more s t l e = go (cases_slot s c.one) (cases_slot s c.other)
     where
-      go : (s ≡ a) ⊎ (s ≡ a → ⊥) → (s ≡ b) ⊎ (s ≡ b → ⊥) → Joined cs (i + 1) s t
-      go (inl p) q = (i, omega arith, inl (sym p, same_some _ b t (ap (end_at after) p ∙ at_a) e))
-      go (inr p) (inl q) = (i, omega arith, inr (sym q, same_some _ a t (ap (end_at after) q ∙ at_b) e))
-      go (inr p) (inr q) = let j = w.only s t l (sym (at_rest s p q) ∙ e) in (j.0, omega (arith, j.1), j.2)
+      go : (s ≡ c.one) ⊎ (s ≡ c.one → ⊥) → (s ≡ c.other) ⊎ (s ≡ c.other → ⊥) → Joined cs (i + 1) s t
+      go (inl p) q = (i, omega arith, inl (sym p, same_some _ c.other t (ap (end_at (plugged ts c)) p ∙ at_one k few c ts long fits) e))
+      go (inr p) (inl q) = (i, omega arith, inr (sym q, same_some _ c.one t (ap (end_at (plugged ts c)) q ∙ at_other k few c ts long fits) e))
+      go (inr p) (inr q) = let j = w.only s t l (sym (at_rest k few c ts long fits s p q) ∙ e) in (j.0, omega (arith, j.1), j.2)
 
-  pub wired_more : Wired k (i + 1) cs after
+  pub wired_more : Wired k (i + 1) cs (plugged ts c)
   wired_more = record {
     good = below_more (Good k cs) i w.good (record {
       there = λ s t r. (free s t r).0;
@@ -145,13 +187,3 @@ module _ (k : ℕ) (few : k ≤ 64) (cs : List Cable) (ts : List (Option Slot)) 
 
   pub there : (s t : Slot) → Joined cs (length cs) s t → t.node < k
   there s t j = (w.good j.0 j.1).there t s (turned (cable_at cs j.0) s t j.2)
-
-  pub paired : Paired k ts
-  paired s l = go (ends s l)
-    where
-      go : (far_at ts s ≡ s) ⊎ (Joined cs (length cs) s (far_at ts s)) → ((far_at ts s).node < k) × (far_at ts (far_at ts s) ≡ s)
-      go (inl e) = (omega (arith, ap (λ (r : Slot). r.node) e), ap (far_at ts) e ∙ e)
-      go (inr j) = (there s (far_at ts s) j, led (far_at ts s) s (return cs (length cs) s (far_at ts s) j))
-
-  pub inside : Inside k ts
-  inside u p l = (paired (record { node = u; port = p }) l).0

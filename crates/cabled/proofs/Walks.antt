@@ -38,11 +38,3 @@ module _ (k : ℕ) (few : k ≤ 64) (cs : List Cable) (ts : List (Option Slot)) 
       let r = walk n d m l h.0 in
       let same : r.0 ≡ d = omega (arith, r.1, h.1 r.0 (way r.2)) in
       (subst (λ i. Walk cs i m n) same r.2, λ j v. h.1 j (way v))
-
-  -- where each node has a way to node 0, each has a way to each
-  pub joined : ((m : ℕ) → m < k → (j : ℕ) × Way (next_at ts) 0 j m) → (m n : ℕ) → m < k → n < k → (j : ℕ) × Way (next_at ts) n j m
-  joined h m n p q =
-      let a = walk 0 (h m p).0 m p (h m p).1 in
-      let b = walk 0 (h n q).0 n q (h n q).1 in
-      let r = after a.2 (reverse b.2).1 in
-      (r.0, way r.1)

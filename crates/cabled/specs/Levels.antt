@@ -1,14 +1,22 @@
 -- How many steps each node is from one, found in rounds. A step leaves a node by a port, so by one without a cable it stays.
-use Rattle.std.specs.Prelude.{◌≡◌, ℕ, zero, suc, ◌+◌, ◌<◌, ◌≤◌, Bool, cond, ◌&&◌, ◌||◌, ◌⊎◌, ◌==◌, nat_eq}
+use Rattle.std.specs.Prelude.{◌≡◌, ℕ, zero, suc, ◌+◌, ◌<◌, ◌≤◌, Bool, false, Some, None, Option, [], ◌∷◌, ◌==◌}
+use Rattle.std.specs.Bool.{then_some}
+use Rattle.std.specs.List.{list_any}
+use Rattle.std.specs.Option.{option_or}
 use Rattle.fabric.specs.declared.parts.Port.{Port}
 use Rattle.fabric.specs.declared.parts.Port.TheVariants.{N, E, S, W}
 
 abbrev pub any : (Port → Bool) → Bool
-any f = f N || (f E || (f S || f W))
+any f = list_any f (N ∷ E ∷ S ∷ W ∷ [])
+
+-- the level is l
+abbrev pub at : ℕ → Option ℕ → Bool
+at l (Some d) = d == l
+at l None = false
 
 -- one round more: a node without a level beside one of level l has the level l + 1
-abbrev pub again : (ℕ → Port → ℕ) → (ℕ → ℕ) → ℕ → ℕ → ℕ
-again next f l u = cond (f u == 64 && any (λ p. nat_eq (f (next u p)) l)) (l + 1) (f u)
+abbrev pub again : (ℕ → Port → ℕ) → (ℕ → Option ℕ) → ℕ → ℕ → Option ℕ
+again next f l u = option_or (f u) (then_some (any (λ p. at l (f (next u p)))) (l + 1))
 
 -- a way of k steps from u to t
 abbrev pub Way : (ℕ → Port → ℕ) → ℕ → ℕ → ℕ → Type 0
@@ -19,13 +27,19 @@ Way next t (suc k) u = (p : Port) × Way next t k (next u p)
 abbrev pub Nearest : (ℕ → Port → ℕ) → ℕ → ℕ → ℕ → Type 0
 Nearest next t u d = Way next t d u × ((k : ℕ) → Way next t k u → d ≤ k)
 
--- what l rounds find of node u: the fewest steps to t where these are at most l, else 64
-abbrev pub Found : (ℕ → Port → ℕ) → ℕ → ℕ → ℕ → ℕ → Type 0
-Found next t l u d = ((d ≤ l) × Nearest next t u d) ⊎ ((d ≡ 64) × ((k : ℕ) → Way next t k u → l < k))
+-- what l rounds find of node u: the fewest steps to t where these are at most l, else nothing
+abbrev pub Found : (ℕ → Port → ℕ) → ℕ → ℕ → ℕ → Option ℕ → Type 0
+Found next t l u (Some d) = (d ≤ l) × Nearest next t u d
+Found next t l u None = (k : ℕ) → Way next t k u → l < k
 
 abbrev pub NoWay : (ℕ → Port → ℕ) → ℕ → ℕ → Type 0
 NoWay next t u = (k : ℕ) → Way next t k u → ⊥
 
--- the level of node u: the fewest steps to t, or 64 where there is no way
-abbrev pub Level : (ℕ → Port → ℕ) → ℕ → ℕ → ℕ → Type 0
-Level next t u d = ((d < 64) × Nearest next t u d) ⊎ ((d ≡ 64) × NoWay next t u)
+-- the fewest steps from u to t, which are few
+abbrev pub Steps : (ℕ → Port → ℕ) → ℕ → ℕ → ℕ → Type 0
+Steps next t u d = (d < 64) × Nearest next t u d
+
+-- the level of node u: the fewest steps to t, or nothing where there is no way
+abbrev pub Level : (ℕ → Port → ℕ) → ℕ → ℕ → Option ℕ → Type 0
+Level next t u (Some d) = Steps next t u d
+Level next t u None = NoWay next t u

@@ -2,3 +2,4 @@ pub mod Cables
 pub mod Levels
 pub mod Tables
 pub mod Laws
+pub mod Plans

@@ -1,5 +1,6 @@
 -- What the tables of a cabled layout mean.
-use Rattle.std.specs.Prelude.{◌≡◌, ℕ, ◌+◌, ◌*◌, ◌<◌, ◌≤◌, Bool, true, cond, List, [], is_some, Some, None, Option, ◌==◌, ◌≢◌, nat_lt, slice_index, slice_index_or, slice_set}
+use Rattle.std.specs.Prelude.{◌≡◌, ℕ, ◌+◌, ◌*◌, ◌<◌, ◌≤◌, Bool, true, cond, List, [], ◌∷◌, is_some, Some, None, Option, ◌==◌, ◌≢◌, nat_lt, slice_index, slice_index_or, slice_set}
+use Rattle.std.specs.List.{find}
 use Rattle.std.specs.Option.{unwrap_or}
 use Rattle.fabric.specs.declared.parts.Cable.{Cable}
 use Rattle.fabric.specs.declared.parts.Port.{Port}
@@ -8,6 +9,7 @@ use Rattle.fabric.specs.declared.parts.Slot.{Slot}
 use Rattle.fabric.specs.Layouts.{Plan, both}
 use Rattle.fabric.specs.Ports.{place_of}
 use Rattle.cabled.specs.Cables.{AllGood, Joined}
+use Rattle.cabled.specs.Levels.{Steps}
 
 -- the place of a slot in a table that has four for each node
 abbrev pub index : Slot → ℕ
@@ -34,7 +36,7 @@ leads ts ds m n p = distance_at ds (next_at ts m p) n + 1 == distance_at ds m n
 
 -- the first of E, W, N, S that passes
 abbrev pub first : (Port → Bool) → Option Port
-first f = cond (f E) (Some E) (cond (f W) (Some W) (cond (f N) (Some N) (cond (f S) (Some S) None)))
+first f = find f (E ∷ W ∷ N ∷ S ∷ [])
 
 abbrev pub wish_at : List (Option Slot) → List (List ℕ) → ℕ → ℕ → Option Port
 wish_at ts ds m n = first (leads ts ds m n)
@@ -52,10 +54,6 @@ cabled_plan k ts ds r = record {
 abbrev pub Paired : ℕ → List (Option Slot) → Type 0
 Paired k ts = (s : Slot) → s.node < k → ((far_at ts s).node < k) × (far_at ts (far_at ts s) ≡ s)
 
--- each port of the k nodes leads to one of them
-abbrev pub Inside : ℕ → List (Option Slot) → Type 0
-Inside k ts = (u : ℕ) (p : Port) → u < k → next_at ts u p < k
-
 -- each distance of the k nodes is at most r
 abbrev pub Within : ℕ → List (List ℕ) → ℕ → Type 0
 Within k ds r = (m n : ℕ) → (m < k) × (n < k) → distance_at ds m n ≤ r
@@ -63,6 +61,12 @@ Within k ds r = (m n : ℕ) → (m < k) × (n < k) → distance_at ds m n ≤ r
 -- a node has distance 0 to itself, and to any other of the k nodes a port leads one nearer
 abbrev pub Nearing : ℕ → List (Option Slot) → List (List ℕ) → Type 0
 Nearing k ts ds = (m n : ℕ) → (m < k) × (n < k) → cond (m == n) (distance_at ds m n == 0) (is_some (wish_at ts ds m n)) ≡ true
+
+-- the distances between all k nodes are the fewest steps, and r is the greatest of them
+pub record Measured (k : ℕ) (ts : List (Option Slot)) (ds : List (List ℕ)) (r : ℕ) : Type 0 where
+  pub exact : (m n : ℕ) → (m < k) × (n < k) → Steps (next_at ts) n m (distance_at ds m n)
+  pub within : Within k ds r
+  pub met : (m n : ℕ) × (m < k) × (n < k) × (distance_at ds m n ≡ r)
 
 -- a port of the k nodes is without a cable
 abbrev pub Free : ℕ → List (Option Slot) → Slot → Type 0

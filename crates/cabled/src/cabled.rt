@@ -2,38 +2,39 @@
 ghost use Rattle.std.specs.Prelude.{◌≡◌, ◌<◌, ◌≤◌, []};
 ghost use Rattle.fabric.specs.Refusals.{shown};
 ghost use Rattle.cabled.specs.Cables.{Means, lone, Cabling};
-ghost use Rattle.cabled.specs.Tables.{leads, cabled_plan, Paired, Within, Nearing};
-ghost use Rattle.cabled.specs.Laws;
+ghost use Rattle.cabled.specs.Tables.{leads, Within, Nearing};
 
-use super::rounds::{NODES, Spans, cut_off, measure};
-use super::wiring::{Ends, SLOTS, far, wired};
+use super::rounds::Spans;
+use super::wiring::{NODES, Wiring};
 use fabric::layout::Layout;
 use fabric::parts::{Cable, Port, Slot};
 use fabric::refusal::Refusal;
 
+// The order in which ports are tried for a wish.
+const WISH_ORDER: [Port; 4] = [Port::E, Port::W, Port::N, Port::S];
+
 // The layout that a list of cables makes.
 #[derive(Clone, Copy)]
 pub struct Cabled {
-    nodes: usize,
-    ends: Ends,
+    wiring: Wiring,
     // a row for each node, with the distances to it
     distances: [[u8; NODES]; NODES],
     reach: u8,
-    ghost few: { (0 < nodes) × (nodes ≤ 64) × (reach ≤ 63) },
-    ghost paired: { Paired nodes ends },
-    ghost within: { Within nodes distances reach },
-    ghost nearing: { Nearing nodes ends distances },
+    ghost near: { reach ≤ 63 },
+    ghost within: { Within wiring.nodes distances reach },
+    ghost nearing: { Nearing wiring.nodes wiring.ends distances },
 }
 
 impl Cabled {
+    ghost use Rattle.cabled.specs.Plans.{plan_of};
+
     // One node without cables.
     pub fn new() -> Cabled
-        ensures plan { cabled_plan result.nodes result.ends result.distances result.reach ≡ lone }
-        ensures meaning { Means 1 [] (cabled_plan result.nodes result.ends result.distances result.reach) }
+        ensures plan { plan_of result ≡ lone }
+        ensures meaning { Means 1 [] (plan_of result) }
     {
         Cabled {
-            nodes: 1,
-            ends: [None; SLOTS],
+            wiring: Wiring::bare(1),
             distances: [[0; NODES]; NODES],
             reach: 0,
         }
@@ -41,19 +42,15 @@ impl Cabled {
 
     // Replaces the layout wholly, or not at all.
     pub fn cable(&mut self, nodes: usize, cables: &[Cable]) -> Result<(), Refusal>
-        ensures { Cabling (λ x. cabled_plan x.nodes x.ends x.distances x.reach) nodes cables.now self.old self.new (shown result) }
+        ensures { Cabling plan_of nodes cables.now self.old self.new (shown result) }
     {
         if nodes == 0 || nodes > NODES {
             return Err(Refusal::Nodes);
         }
-        let ends = wired(nodes, cables)?;
-        if let Some(node) = cut_off(&ends, nodes) {
-            return Err(Refusal::Unreached(node));
-        }
-        let Spans { distances, reach } = measure(&ends, nodes);
+        let wiring = Wiring::new(nodes, cables)?;
+        let Spans { distances, reach } = wiring.measure()?;
         *self = Cabled {
-            nodes,
-            ends,
+            wiring,
             distances,
             reach,
         };
@@ -62,34 +59,37 @@ impl Cabled {
 
     // Whether the port leads one nearer.
     fn leads(&self, from: usize, to: usize, port: Port) -> bool
-        requires { (from < self.now.nodes) × (to < self.now.nodes) }
-        ensures { result ≡ leads self.now.ends self.now.distances from to port }
+        requires { (from < self.now.wiring.nodes) × (to < self.now.wiring.nodes) }
+        ensures { result ≡ leads self.now.wiring.ends self.now.distances from to port }
     {
-        let next = far(&self.ends, Slot { node: from, port }).node;
+        let next = self.wiring.far(Slot { node: from, port }).node;
         self.distances[to][next] + 1 == self.distances[to][from]
     }
 }
 
 impl Layout for Cabled {
-    ghost plan = { λ x. cabled_plan x.nodes x.ends x.distances x.reach };
+    ghost use Rattle.cabled.specs.Plans.{plan_of};
+    ghost use Rattle.cabled.specs.Laws;
 
-    ghost lawful = { λ c. Laws.lawful c.nodes c.ends c.distances c.reach c.paired c.nearing c.few c.within };
+    ghost plan = { plan_of };
+
+    ghost lawful = { λ c. Laws.lawful c.wiring.nodes c.wiring.ends c.distances c.reach c.wiring.paired c.nearing (c.wiring.fair.0, c.wiring.fair.1, c.near) c.within };
 
     fn nodes(&self) -> usize {
-        self.nodes
+        self.wiring.nodes
     }
 
     fn far_end(&self, node: usize, port: Port) -> Slot {
         let slot = Slot { node, port };
-        if node < self.nodes {
-            far(&self.ends, slot)
+        if node < self.wiring.nodes {
+            self.wiring.far(slot)
         } else {
             slot
         }
     }
 
     fn distance(&self, from: usize, to: usize) -> usize {
-        if from < self.nodes && to < self.nodes {
+        if from < self.wiring.nodes && to < self.wiring.nodes {
             usize::from(self.distances[to][from])
         } else {
             0
@@ -97,20 +97,13 @@ impl Layout for Cabled {
     }
 
     fn wish(&self, from: usize, to: usize) -> Option<Port> {
-        if from >= self.nodes || to >= self.nodes {
+        if from >= self.wiring.nodes || to >= self.wiring.nodes {
             return None;
         }
-        if self.leads(from, to, Port::E) {
-            Some(Port::E)
-        } else if self.leads(from, to, Port::W) {
-            Some(Port::W)
-        } else if self.leads(from, to, Port::N) {
-            Some(Port::N)
-        } else if self.leads(from, to, Port::S) {
-            Some(Port::S)
-        } else {
-            None
-        }
+        WISH_ORDER
+            .iter()
+            .copied()
+            .find(|&port| self.leads(from, to, port))
     }
 
     fn reach(&self) -> usize {
@@ -132,8 +125,8 @@ mod tests {
     // Each node's E to the next node's W, and the last node's to the first.
     fn around() -> [Cable; NODES] {
         let mut cables = [cable(0, Port::E, 0, Port::W); NODES];
-        for node in 0..NODES {
-            cables[node] = cable(node, Port::E, (node + 1) % NODES, Port::W);
+        for (node, place) in cables.iter_mut().enumerate() {
+            *place = cable(node, Port::E, (node + 1) % NODES, Port::W);
         }
         cables
     }

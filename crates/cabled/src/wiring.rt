@@ -1,18 +1,16 @@
-// The table of the cables' ends.
-ghost use Rattle.std.specs.Prelude.{◌≡◌, ℕ, ◌<◌, ◌≤◌, length, Ok, Err, Decides};
-ghost use Rattle.cabled.specs.Cables.{Good, AllGood};
-ghost use Rattle.cabled.specs.Tables.{index, far_at, Free, Fits, plugged, Wired};
+// Which ports the cables join.
+ghost use Rattle.std.specs.Prelude.{◌≡◌, ℕ, None, ◌<◌, Ok, Err, length, replicate, Decides};
+ghost use Rattle.cabled.specs.Cables.{Fair, Good, AllGood};
+ghost use Rattle.cabled.specs.Tables.{index, far_at, Free, Fits, plugged, Paired, Wired};
 
 use fabric::parts::{Cable, Slot};
 use fabric::refusal::Refusal;
 
+pub(crate) const NODES: usize = 64;
+
 const PORTS: usize = 4;
 
-// The ports of 64 nodes.
-pub(crate) const SLOTS: usize = 256;
-
-// For each port the other end of its cable, if there is one.
-pub(crate) type Ends = [Option<Slot>; SLOTS];
+const SLOTS: usize = NODES * PORTS;
 
 // The place of a port in the table.
 fn place(slot: Slot) -> usize
@@ -22,50 +20,73 @@ fn place(slot: Slot) -> usize
     slot.node * PORTS + slot.port.index()
 }
 
-// The slot to which a port leads: the other end of its cable, or its own.
-pub(crate) fn far(ends: &Ends, slot: Slot) -> Slot
-    requires { slot.node < 64 }
-    ensures { result ≡ far_at ends.now slot }
-{
-    ends[place(slot)].unwrap_or(slot)
+// So many nodes, and for each port the other end of its cable, if there is one.
+#[derive(Clone, Copy)]
+pub(crate) struct Wiring {
+    pub(crate) nodes: usize,
+    ends: [Option<Slot>; SLOTS],
+    ghost fair: { Fair nodes },
+    ghost paired: { Paired nodes ends },
 }
 
-// Whether the node exists and no cable is in the port.
-fn is_free(ends: &Ends, nodes: usize, slot: Slot) -> bool
-    requires { nodes ≤ 64 }
-    ensures { Decides result (Free nodes ends.now slot) }
-{
-    slot.node < nodes && ends[place(slot)].is_none()
-}
-
-// Whether the cable has two ends, both at free ports.
-fn can_plug(ends: &Ends, nodes: usize, cable: Cable) -> bool
-    requires { nodes ≤ 64 }
-    ensures { Decides result (Fits nodes ends.now cable) }
-{
-    cable.one != cable.other && is_free(ends, nodes, cable.one) && is_free(ends, nodes, cable.other)
-}
-
-// Puts the cable in.
-fn plug(ends: &mut Ends, cable: Cable)
-    requires { (cable.one.node < 64) × (cable.other.node < 64) }
-    ensures { ends.new ≡ plugged ends.old cable }
-{
-    ends[place(cable.one)] = Some(cable.other);
-    ends[place(cable.other)] = Some(cable.one);
-}
-
-// The ends of all the cables, unless one does not fit.
-pub(crate) fn wired(nodes: usize, cables: &[Cable]) -> Result<Ends, Refusal>
-    requires { nodes ≤ 64 }
-    ensures { elim result [ Ok ts ↦ Wired nodes (length cables.now) cables.now ts | Err e ↦ (i : ℕ) × (e ≡ Refusal.Cable i) × (i < length cables.now) × AllGood nodes cables.now i × (Good nodes cables.now i → ⊥) ] }
-{
-    let mut ends = [None; SLOTS];
-    for (i, &cable) in cables.iter().enumerate() {
-        if !can_plug(&ends, nodes, cable) {
-            return Err(Refusal::Cable(i));
+impl Wiring {
+    // Nodes without cables.
+    pub(crate) fn bare(nodes: usize) -> Wiring
+        requires { Fair nodes }
+        ensures nodes { result.nodes ≡ nodes }
+        ensures ends { result.ends ≡ replicate 256 None }
+    {
+        Wiring {
+            nodes,
+            ends: [None; SLOTS],
         }
-        plug(&mut ends, cable);
     }
-    Ok(ends)
+
+    // Nodes with all the cables, unless one does not fit.
+    pub(crate) fn new(nodes: usize, cables: &[Cable]) -> Result<Wiring, Refusal>
+        requires { Fair nodes }
+        ensures { elim result [ Ok w ↦ (w.nodes ≡ nodes) × Wired w.nodes (length cables.now) cables.now w.ends | Err e ↦ (i : ℕ) × (e ≡ Refusal.Cable i) × (i < length cables.now) × AllGood nodes cables.now i × (Good nodes cables.now i → ⊥) ] }
+    {
+        let mut wiring = Wiring::bare(nodes);
+        for (i, &cable) in cables.iter().enumerate() {
+            if !wiring.can_plug(cable) {
+                return Err(Refusal::Cable(i));
+            }
+            wiring.plug(cable);
+        }
+        Ok(wiring)
+    }
+
+    // The slot to which a port leads: the other end of its cable, or its own.
+    pub(crate) fn far(&self, slot: Slot) -> Slot
+        requires { slot.node < self.now.nodes }
+        ensures led { result ≡ far_at self.now.ends slot }
+        ensures inside { result.node < self.now.nodes }
+    {
+        self.ends[place(slot)].unwrap_or(slot)
+    }
+
+    // Whether the node exists and no cable is in the port.
+    fn is_free(&self, slot: Slot) -> bool
+        ensures { Decides result (Free self.now.nodes self.now.ends slot) }
+    {
+        slot.node < self.nodes && self.ends[place(slot)].is_none()
+    }
+
+    // Whether the cable has two ends, both at free ports.
+    fn can_plug(&self, cable: Cable) -> bool
+        ensures { Decides result (Fits self.now.nodes self.now.ends cable) }
+    {
+        cable.one != cable.other && self.is_free(cable.one) && self.is_free(cable.other)
+    }
+
+    // Puts the cable in.
+    fn plug(&mut self, cable: Cable)
+        requires { Fits self.old.nodes self.old.ends cable }
+        ensures nodes { self.new.nodes ≡ self.old.nodes }
+        ensures ends { self.new.ends ≡ plugged self.old.ends cable }
+    {
+        self.ends[place(cable.one)] = Some(cable.other);
+        self.ends[place(cable.other)] = Some(cable.one);
+    }
 }

@@ -4,7 +4,7 @@
 ghost use Rattle.std.specs.Prelude.{◌≡◌, ◌<◌, [], slice_index};
 ghost use Rattle.fabric.specs.Meshes.{mesh_plan};
 ghost use Rattle.fabric.specs.Refusals.{number, numbered};
-ghost use Rattle.cabled.specs.Tables.{cabled_plan};
+ghost use Rattle.cabled.specs.Plans.{plan_of};
 ghost use Rattle.runsheet.specs.declared.fault.Layer.TheVariants.{Network};
 ghost use Rattle.runsheet.specs.declared.parts.Shape.{Shape as Form};
 ghost use Rattle.runsheet.specs.Faults.{told};
@@ -53,7 +53,7 @@ pub fn lay_mesh(width: u32, height: u32) -> Result<Mesh, Fault>
 
 // Joins so many nodes by the sheet's cables.
 pub fn lay_cables(nodes: u32, sheet: &Sheet) -> Result<Cabled, Fault>
-    ensures { Laid (Form.Cabled nodes) (said sheet.now).cables (reported (λ c. cabled_plan c.nodes c.ends c.distances c.reach) result) }
+    ensures { Laid (Form.Cabled nodes) (said sheet.now).cables (reported plan_of result) }
 {
     let mut layout = Cabled::new();
     match layout.cable(nodes as usize, sheet.cables()) {

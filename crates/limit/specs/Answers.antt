@@ -6,7 +6,7 @@ use Rattle.fabric.specs.Layouts.{Plan}
 use Rattle.fabric.specs.Meshes.{mesh_plan, mesh_verdict}
 use Rattle.fabric.specs.Verdicts.{Verdict, granting}
 use Rattle.cabled.specs.Cables.{Cabling, lone}
-use Rattle.cabled.specs.Tables.{cabled_plan}
+use Rattle.cabled.specs.Plans.{plan_of}
 use Rattle.switch.specs.Switches.{Handing, Turn, LawfulSwitch}
 use Rattle.bounds.specs.declared.settings.Settings.{Settings}
 use Rattle.bounds.specs.declared.limits.Limits.{Limits}
@@ -69,4 +69,4 @@ Answered bs r =
 -- what an answer of the code means
 abbrev pub meant : Answer → Plan × Limits
 meant (OnMesh m l) = (mesh_plan m.width m.height, l)
-meant (OnCables c l) = (cabled_plan c.nodes c.ends c.distances c.reach, l)
+meant (OnCables c l) = (plan_of c, l)

@@ -2,7 +2,7 @@
 ghost use Rattle.std.specs.Prelude.{◌≡◌, ◌<◌, ◌≤◌, [], length, IfOk, slice_index};
 ghost use Rattle.fabric.specs.Meshes.{mesh_plan};
 ghost use Rattle.fabric.specs.Refusals.{numbered};
-ghost use Rattle.cabled.specs.Tables.{cabled_plan};
+ghost use Rattle.cabled.specs.Plans.{plan_of};
 ghost use Rattle.sheet.specs.declared.parts.Shape.{Shape as Form};
 ghost use Rattle.limit.specs.Answers.{layout_line, Laid, settings_of, limited, OffWithin, Answered, meant};
 ghost use Rattle.limit.specs.Reports.{reported};
@@ -58,7 +58,7 @@ fn lay_mesh(width: u32, height: u32) -> Result<Mesh, Fault>
 
 fn lay_cables(nodes: u32, cables: &[Cable]) -> Result<Cabled, Fault>
     requires { length cables.now ≤ 128 }
-    ensures { Laid (Form.Cabled nodes) cables.now (reported (λ c. cabled_plan c.nodes c.ends c.distances c.reach) result) }
+    ensures { Laid (Form.Cabled nodes) cables.now (reported plan_of result) }
 {
     let mut layout = Cabled::new();
     match layout.cable(nodes as usize, cables) {

@@ -1,56 +1,50 @@
 use Rattle.std.proofs.Common.{⊎_elim, arith}
 use Rattle.std.proofs.lemmas.Result.{err_from_is_err_and}
 use Rattle.cabled.specs.Cables.Cabling.{unfair, bad, unreached, cabled}
-use Rattle.cabled.proofs.Meaning.{nearest, nearing, means}
-use Rattle.cabled.proofs.Plugs.{inside, paired}
+use Rattle.cabled.specs.Tables.{distance_at}
+use Rattle.cabled.proofs.Meaning.{nearing, means}
 use Rattle.cabled.proofs.Walks.{reverse, walk, way}
 use Rattle.cabled.proofs.cabled.Cabled.cable.Goals as goal
 
 pub returns-then-nodes-eq0 : goal.returns-then-nodes-eq0
-returns-then-nodes-eq0 c = unfair (λ f. ⊎_elim (λ e. omega arith) (λ e. omega (arith, e.1)) c.then-nodes-eq0.either)
+returns-then-nodes-eq0 c = unfair (λ f. ⊎_elim (λ e. omega arith) (λ e. omega arith) c.then-nodes-eq0.either)
 
-pub returns-in_err-ends : goal.returns-in_err-ends
-returns-in_err-ends c =
+pub returns-in_err-wiring : goal.returns-in_err-wiring
+returns-in_err-wiring c =
     let p = err_from_is_err_and c.from_residual.result c.from_residual.ensures.1 in
-    let h = c.in_err-ends.ensures in
+    let h = c.in_err-wiring.ensures in
     rw (p.1, p.2, h.1) (bad (omega arith, omega arith) h.0 h.2 h.3 h.4)
 
-pub cut_off-requires : goal.cut_off-requires
-cut_off-requires c = (omega arith, (omega arith, inside c.args.nodes (omega arith) c.args.cables.now c.in_ok-ends.ends c.in_ok-ends.ensures))
-
-pub returns-in-Some : goal.returns-in-Some
-returns-in-Some c =
-    let w = c.in_ok-ends.ensures in
-    let u = c.in-Some.ensures in
-    unreached (omega arith, omega arith) w.good c.in-Some.node u.0
-    (λ j v. let r = reverse v in u.1 r.0 (way c.args.nodes (omega arith) c.args.cables.now c.in_ok-ends.ends w r.1))
-
-pub measure-reach-requires : goal.measure-reach-requires
-measure-reach-requires c = (omega arith, (omega arith, inside c.args.nodes (omega arith) c.args.cables.now c.in_ok-ends.ends c.in_ok-ends.ensures))
+pub returns-in_err-distances : goal.returns-in_err-distances
+returns-in_err-distances c =
+    let x = c.in_ok-wiring.wiring in
+    let p = err_from_is_err_and c.from_residual-in_err-distances.result c.from_residual-in_err-distances.ensures.1 in
+    let h = c.in_ok-wiring.ensures in
+    let u = c.in_err-distances.ensures in
+    rw (p.1, p.2, u.1, ← h.0)
+    (unreached x.fair h.1.good u.0 u.2 (λ j v. let r = reverse v in u.3 r.0 (way x.nodes x.fair.1 c.args.cables.now x.ends h.1 r.1)))
 
 pub invariant_of-self : goal.invariant_of-self
 invariant_of-self c =
-    let k = c.args.nodes in
-    let cs = c.args.cables.now in
-    let ts = c.in_ok-ends.ends in
-    let ds = c.measure-reach.result.distances in
-    let w = c.in_ok-ends.ensures in
-    let spans = c.measure-reach.ensures in
-    let met = spans.met in
+    let x = c.in_ok-wiring.wiring in
+    let s = c.in_ok-distances.field-0 in
+    let measured = c.in_ok-distances.ensures in
+    let met = measured.met in
     record {
-      few = (omega arith, omega arith, omega (arith, met.2.2, (nearest k (omega arith) cs ts ds w c.in_default.ensures spans.exact met.2.0 met.0 met.2.1 met.1).0));
-      paired = paired k (omega arith) cs ts w;
-      within = λ m n l. spans.within n l.1 m l.0;
-      nearing = nearing k (omega arith) cs ts ds w c.in_default.ensures spans.exact;
+      near = omega (arith, met.4, (measured.exact met.0 met.1 (met.2, met.3)).0);
+      within = measured.within;
+      nearing = nearing x.nodes x.fair.1 c.args.cables.now x.ends s.distances s.reach c.in_ok-wiring.ensures.1 x.paired measured;
     }
 
 pub returns : goal.returns
 returns c =
-    let k = c.args.nodes in
+    let x = c.in_ok-wiring.wiring in
+    let k = x.nodes in
     let cs = c.args.cables.now in
-    let ts = c.in_ok-ends.ends in
-    let w = c.in_ok-ends.ensures in
-    let ways = c.in_default.ensures in
-    let spans = c.measure-reach.ensures in
-    cabled (omega arith, omega arith) w.good (λ n l cut. let r = reverse (walk k (omega arith) cs ts w 0 (ways n l).0 n l (ways n l).1).2 in cut r.0 r.1)
-    (means k (omega arith) cs ts c.measure-reach.result.distances w ways spans.exact c.measure-reach.result.reach spans.within spans.met)
+    let h = c.in_ok-wiring.ensures in
+    let s = c.in_ok-distances.field-0 in
+    let measured = c.in_ok-distances.ensures in
+    rw (← h.0)
+    (cabled x.fair h.1.good
+    (λ n l cut. let r = reverse (walk k x.fair.1 cs x.ends h.1 0 (distance_at s.distances n 0) n l (measured.exact n 0 (l, x.fair.0)).1.0).2 in cut r.0 r.1)
+    (means k x.fair.1 cs x.ends s.distances s.reach h.1 x.paired measured))

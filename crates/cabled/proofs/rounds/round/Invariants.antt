@@ -1,8 +1,0 @@
-use Rattle.std.proofs.Common.{◌≡◌, ℕ, ◌<◌, length, get_or}
-use Rattle.cabled.specs.Levels.{again}
-use Rattle.cabled.specs.Tables.{next_at}
-use Rattle.cabled.proofs.rounds.round.Given as goal
-
-abbrev pub invariant-loop-node : goal.invariant-loop-node
-invariant-loop-node l =
-    (length l.row ≡ 64) × ((u : ℕ) → u < l.node → get_or l.row u 0 ≡ again (next_at l.ends) (λ v. get_or l.before v 0) l.level u)
