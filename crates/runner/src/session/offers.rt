@@ -1,5 +1,6 @@
 // The packets that are due are offered.
 ghost use Rattle.std.specs.Prelude.{◌≡◌, ◌+◌, Ok, MatchResult};
+ghost use Rattle.calls.specs.Networks.{fabric_of, SameParts};
 ghost use Rattle.line.specs.Lines.{holds};
 ghost use Rattle.runner.specs.Progress.{Going, Sendable, Offered, to_come, Ready, Due, Left};
 
@@ -14,9 +15,9 @@ use writer::Writer;
 impl<L: Layout, S: Switch> Session<L, S> {
     // Of an accepted packet its destination is kept, until it is collected there. A refused one has its line.
     pub(crate) fn offer(&mut self, packet: Packet, writer: &mut Writer) -> Result<(), Refusal>
-        requires { (Going (record { plan = L.plan self.old.network.layout; turn = S.turn self.old.network.switch }) self.old writer.old) × (Sendable packet) }
-        ensures offered { (result ≡ Ok tt) × (Offered (record { plan = L.plan self.old.network.layout; turn = S.turn self.old.network.switch }) packet self.old writer.old self.new writer.new) }
-        ensures parts { (self.new.network.layout ≡ self.old.network.layout) × (self.new.network.switch ≡ self.old.network.switch) }
+        requires { (Going (fabric_of L.plan S.turn self.old.network) self.old writer.old) × (Sendable packet) }
+        ensures offered { (result ≡ Ok tt) × (Offered (fabric_of L.plan S.turn self.old.network) packet self.old writer.old self.new writer.new) }
+        ensures parts { SameParts self.old.network self.new.network }
         ensures lender { writer.new.memory.ghost_name ≡ writer.old.memory.ghost_name }
     {
         let node = packet.node as usize;
@@ -46,9 +47,9 @@ impl<L: Layout, S: Switch> Session<L, S> {
         planned: &mut Line<Packet>,
         writer: &mut Writer,
     ) -> Result<Option<Packet>, Refusal>
-        requires { Ready (record { plan = L.plan self.old.network.layout; turn = S.turn self.old.network.switch }) cycle (to_come next (holds planned.old)) self.old writer.old }
-        ensures offered { MatchResult result (λ n. Due (record { plan = L.plan self.old.network.layout; turn = S.turn self.old.network.switch }) cycle (to_come next (holds planned.old)) (to_come n (holds planned.new)) self.old writer.old self.new writer.new × Left (cycle + 1) (to_come n (holds planned.new))) (λ _. ⊥) }
-        ensures parts { (self.new.network.layout ≡ self.old.network.layout) × (self.new.network.switch ≡ self.old.network.switch) }
+        requires { Ready (fabric_of L.plan S.turn self.old.network) cycle (to_come next (holds planned.old)) self.old writer.old }
+        ensures offered { MatchResult result (λ n. Due (fabric_of L.plan S.turn self.old.network) cycle (to_come next (holds planned.old)) (to_come n (holds planned.new)) self.old writer.old self.new writer.new × Left (cycle + 1) (to_come n (holds planned.new))) (λ _. ⊥) }
+        ensures parts { SameParts self.old.network self.new.network }
         ensures lender { (writer.new.memory.ghost_name ≡ writer.old.memory.ghost_name) × (planned.new.memory.ghost_name ≡ planned.old.memory.ghost_name) }
     {
         let mut next = next;

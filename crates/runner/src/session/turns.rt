@@ -1,5 +1,6 @@
 // Cycle after cycle.
 ghost use Rattle.std.specs.Prelude.{◌≡◌, ◌+◌, ◌<◌, Ok, MatchResult};
+ghost use Rattle.calls.specs.Networks.{fabric_of, SameParts};
 ghost use Rattle.line.specs.Lines.{holds};
 ghost use Rattle.runner.specs.Progress.{to_come, Ready, Left, Turned, Begun, Played};
 
@@ -20,10 +21,10 @@ impl<L: Layout, S: Switch> Session<L, S> {
         planned: &mut Line<Packet>,
         writer: &mut Writer,
     ) -> Result<Option<Packet>, Refusal>
-        requires ready { Ready (record { plan = L.plan self.old.network.layout; turn = S.turn self.old.network.switch }) cycle (to_come next (holds planned.old)) self.old writer.old }
+        requires ready { Ready (fabric_of L.plan S.turn self.old.network) cycle (to_come next (holds planned.old)) self.old writer.old }
         requires early { cycle < 65535 }
-        ensures turned { MatchResult result (λ n. Turned (record { plan = L.plan self.old.network.layout; turn = S.turn self.old.network.switch }) cycle (to_come next (holds planned.old)) (to_come n (holds planned.new)) self.old writer.old self.new writer.new × Left (cycle + 1) (to_come n (holds planned.new))) (λ _. ⊥) }
-        ensures parts { (self.new.network.layout ≡ self.old.network.layout) × (self.new.network.switch ≡ self.old.network.switch) }
+        ensures turned { MatchResult result (λ n. Turned (fabric_of L.plan S.turn self.old.network) cycle (to_come next (holds planned.old)) (to_come n (holds planned.new)) self.old writer.old self.new writer.new × Left (cycle + 1) (to_come n (holds planned.new))) (λ _. ⊥) }
+        ensures parts { SameParts self.old.network self.new.network }
         ensures lender { (writer.new.memory.ghost_name ≡ writer.old.memory.ghost_name) × (planned.new.memory.ghost_name ≡ planned.old.memory.ghost_name) }
     {
         let next = self.offer_due(cycle, next, planned, writer)?;
@@ -39,8 +40,8 @@ impl<L: Layout, S: Switch> Session<L, S> {
         planned: &mut Line<Packet>,
         writer: &mut Writer,
     ) -> Result<(), Refusal>
-        requires { Begun (record { plan = L.plan self.old.network.layout; turn = S.turn self.old.network.switch }) cycles (holds planned.old) self.old writer.old }
-        ensures played { (result ≡ Ok tt) × (Played (record { plan = L.plan self.old.network.layout; turn = S.turn self.old.network.switch }) cycles (holds planned.old) self.old writer.old writer.new) }
+        requires { Begun (fabric_of L.plan S.turn self.old.network) cycles (holds planned.old) self.old writer.old }
+        ensures played { (result ≡ Ok tt) × (Played (fabric_of L.plan S.turn self.old.network) cycles (holds planned.old) self.old writer.old writer.new) }
         ensures lender { (writer.new.memory.ghost_name ≡ writer.old.memory.ghost_name) × (planned.new.memory.ghost_name ≡ planned.old.memory.ghost_name) }
     {
         let mut next = planned.take();
