@@ -11,9 +11,6 @@ use Rattle.writer.specs.Listings.{listed, beyond, Appends, mean_word, fault_fiel
 use Rattle.writer.specs.Steps.{Puts, figures, spread, Leaves}
 use Rattle.writer.specs.declared.writer.Writer.{Writer}
 
-pub appends_none : (w : Writer) → Appends w [] w
-appends_none w = record { listed = sym (append-nil (listed w)); beyond = refl }
-
 pub appends_both : (w v u : Writer) (a b : List ℕ) → Appends w a v → Appends v b u → Appends w (a ++ b) u
 appends_both w v u a b f g =
     record {
@@ -21,15 +18,9 @@ appends_both w v u a b f g =
       beyond = g.beyond ∙ ap (drop (length b)) f.beyond ∙ drop-drop (length b) (length a) (beyond w) ∙ ap (λ k. drop k (beyond w)) (sym (length-append a b));
     }
 
-pub puts_none : (w : Writer) → Puts w [] w
-puts_none w = record { appends = appends_none w; lender = refl; room = omega arith }
-
 pub puts_both : (w v u : Writer) (a b : List ℕ) → Puts w a v → Puts v b u → Puts w (a ++ b) u
 puts_both w v u a b f g =
     record { appends = appends_both w v u a b f.appends g.appends; lender = g.lender ∙ f.lender; room = omega (arith, length-append a b) }
-
-pub at_room : (w : Writer) → 1 ≤ length (beyond w) → w.len < length w.memory.now
-at_room w h = omega (arith, length-drop w.len w.memory.now)
 
 -- the digits of a number
 pub length_step : (n : ℕ) → 10 ≤ n → n < 2 ^ 32 → length (decimal n) ≡ length (decimal (n / 10)) + 1

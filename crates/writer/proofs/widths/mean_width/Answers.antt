@@ -1,5 +1,4 @@
-use Rattle.std.proofs.Common.{rules, ◌≡◌, ℕ, length, arith}
-use Rattle.writer.specs.Listings.{mean_word}
+use Rattle.std.proofs.Common.{rules}
 use Rattle.writer.proofs.Written.{length_mean}
 use Rattle.writer.proofs.widths.mean_width.Goals as goal
 
