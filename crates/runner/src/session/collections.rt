@@ -1,6 +1,7 @@
 // Complete packets are collected.
 ghost use Rattle.std.specs.Prelude.{◌≡◌, ◌*◌, ◌<◌, Ok};
 ghost use Rattle.calls.specs.Networks.{fabric_of, SameParts};
+ghost use Rattle.writer.specs.Listings.{SameLender};
 ghost use Rattle.runner.specs.Progress.{Going, Tried, Collected};
 
 use super::Session;
@@ -24,7 +25,7 @@ impl<L: Layout, S: Switch> Session<L, S> {
         requires numbers { (cycle < 65536) × (ticket < self.old.nodes * self.old.tickets) }
         ensures tried { (result ≡ Ok tt) × (Tried (fabric_of L.plan S.turn self.old.network) cycle ticket self.old writer.old self.new writer.new) }
         ensures parts { SameParts self.old.network self.new.network }
-        ensures lender { writer.new.memory.ghost_name ≡ writer.old.memory.ghost_name }
+        ensures lender { SameLender writer.old writer.new }
     {
         let aim = self.aims[ticket];
         let Some(receiver) = aim else {
@@ -49,7 +50,7 @@ impl<L: Layout, S: Switch> Session<L, S> {
         requires numbers { cycle < 65536 }
         ensures collected { (result ≡ Ok tt) × (Collected (fabric_of L.plan S.turn self.old.network) cycle (self.old.nodes * self.old.tickets) self.old writer.old self.new writer.new) }
         ensures parts { SameParts self.old.network self.new.network }
-        ensures lender { writer.new.memory.ghost_name ≡ writer.old.memory.ghost_name }
+        ensures lender { SameLender writer.old writer.new }
     {
         for ticket in 0..self.nodes * self.tickets {
             self.collect(cycle, ticket, writer)?;

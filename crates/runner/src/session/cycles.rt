@@ -1,6 +1,7 @@
 // A cycle is carried out.
 ghost use Rattle.std.specs.Prelude.{◌≡◌, Ok};
 ghost use Rattle.calls.specs.Networks.{fabric_of, SameParts};
+ghost use Rattle.writer.specs.Listings.{SameLender};
 ghost use Rattle.runner.specs.Progress.{Early, Cycled};
 
 use super::Session;
@@ -29,7 +30,7 @@ impl<L: Layout, S: Switch> Session<L, S> {
         requires { Early (fabric_of L.plan S.turn self.old.network) self.old writer.old }
         ensures cycled { (result ≡ Ok tt) × (Cycled (fabric_of L.plan S.turn self.old.network) self.old writer.old self.new writer.new) }
         ensures parts { SameParts self.old.network self.new.network }
-        ensures lender { writer.new.memory.ghost_name ≡ writer.old.memory.ghost_name }
+        ensures lender { SameLender writer.old writer.new }
     {
         let mut events = [NO_EVENT; EVENTS];
         let mut line = Line::new(&mut events);

@@ -1,6 +1,6 @@
 use Rattle.std.proofs.Common.{List, [], sym, refl, subst, append-nil}
 use Rattle.std.proofs.lemmas.List.{length-take-le}
-use Rattle.network.specs.Cycle.{Fabric}
+use Rattle.calls.specs.Networks.{fabric_of}
 use Rattle.runsheet.specs.Texts.{Field}
 use Rattle.runner.specs.Progress.{Stands}
 use Rattle.runner.proofs.Sessions.{in_table, in_memory, uncollected, not_yet, brings, written_of, one_more}
@@ -9,14 +9,14 @@ use Rattle.runner.proofs.session.Session.collect.Goals as goal
 pub bounds-self-ticket : goal.bounds-self-ticket
 bounds-self-ticket g c =
     let n = c.args.self.now.network in
-    let F : Fabric = record { plan = g.L.Layout.plan n.layout; turn = g.S.Switch.turn n.switch } in
+    let F = fabric_of g.L.Layout.plan g.S.Switch.turn n in
     let x = c.requires.going in
     in_table F x.settings (g.met.L.Layout.lawful n.layout) x.stands c.args.ticket c.requires.numbers.1
 
 pub returns-in_default : goal.returns-in_default
 returns-in_default g c =
     let n = c.args.self.now.network in
-    let F : Fabric = record { plan = g.L.Layout.plan n.layout; turn = g.S.Switch.turn n.switch } in
+    let F = fabric_of g.L.Layout.plan g.S.Switch.turn n in
     let law = g.met.L.Layout.lawful n.layout in
     record {
       tried = (
@@ -37,21 +37,21 @@ returns-in_default g c =
 pub bounds-self-ticket-in-Ok : goal.bounds-self-ticket-in-Ok
 bounds-self-ticket-in-Ok g c =
     let n = c.args.self.now.network in
-    let F : Fabric = record { plan = g.L.Layout.plan n.layout; turn = g.S.Switch.turn n.switch } in
+    let F = fabric_of g.L.Layout.plan g.S.Switch.turn n in
     let x = c.requires.going in
     in_table F x.settings (g.met.L.Layout.lawful n.layout) x.stands c.args.ticket c.requires.numbers.1
 
 pub slice_bounds-words-end : goal.slice_bounds-words-end
 slice_bounds-words-end g c =
     let n = c.args.self.now.network in
-    let F : Fabric = record { plan = g.L.Layout.plan n.layout; turn = g.S.Switch.turn n.switch } in
+    let F = fabric_of g.L.Layout.plan g.S.Switch.turn n in
     let x = c.requires.going in
     in_memory F x.settings (g.met.L.Layout.lawful n.layout) x.stands c.args.ticket c.requires.numbers.1 _ _ _ _ c.in-Ok.ensures.promised
 
 pub slice_bounds-done-end : goal.slice_bounds-done-end
 slice_bounds-done-end g c =
     let n = c.args.self.now.network in
-    let F : Fabric = record { plan = g.L.Layout.plan n.layout; turn = g.S.Switch.turn n.switch } in
+    let F = fabric_of g.L.Layout.plan g.S.Switch.turn n in
     let x = c.requires.going in
     sym (length-take-le c.in-Ok.count c.collect.new.memory
     (in_memory F x.settings (g.met.L.Layout.lawful n.layout) x.stands c.args.ticket c.requires.numbers.1 _ _ _ _ c.in-Ok.ensures.promised))
@@ -59,7 +59,7 @@ slice_bounds-done-end g c =
 pub returns-in-Ok : goal.returns-in-Ok
 returns-in-Ok g c =
     let n = c.args.self.now.network in
-    let F : Fabric = record { plan = g.L.Layout.plan n.layout; turn = g.S.Switch.turn n.switch } in
+    let F = fabric_of g.L.Layout.plan g.S.Switch.turn n in
     let law = g.met.L.Layout.lawful n.layout in
     let t = c.args.ticket in
     let h = c.requires.numbers.1 in
@@ -90,7 +90,7 @@ returns-in-Ok g c =
 pub returns-in-Err : goal.returns-in-Err
 returns-in-Err g c =
     let n = c.args.self.now.network in
-    let F : Fabric = record { plan = g.L.Layout.plan n.layout; turn = g.S.Switch.turn n.switch } in
+    let F = fabric_of g.L.Layout.plan g.S.Switch.turn n in
     let law = g.met.L.Layout.lawful n.layout in
     let e = c.in-Err.ensures in
     record {

@@ -1,5 +1,5 @@
 use Rattle.std.proofs.Common.{ℕ, refl, ◌∙◌, subst, arith}
-use Rattle.network.specs.Cycle.{Fabric}
+use Rattle.calls.specs.Networks.{fabric_of}
 use Rattle.writer.specs.Listings.{LineOut, no_line}
 use Rattle.fabric.specs.Refusals.{shown}
 use Rattle.runner.proofs.Sessions.{place_below, took, refuses, number_small}
@@ -8,7 +8,7 @@ use Rattle.runner.proofs.session.Session.offer.Goals as goal
 pub offset_bounds-self-node : goal.offset_bounds-self-node
 offset_bounds-self-node g c =
     let n = c.args.self.now.network in
-    let F : Fabric = record { plan = g.L.Layout.plan n.layout; turn = g.S.Switch.turn n.switch } in
+    let F = fabric_of g.L.Layout.plan g.S.Switch.turn n in
     let x = c.requires.0 in
     let h = place_below F x.settings (g.met.L.Layout.lawful n.layout) x.stands c.args.packet c.in-Ok.ensures.promised in
     omega (arith, h)
@@ -16,14 +16,14 @@ offset_bounds-self-node g c =
 pub bounds-self-node : goal.bounds-self-node
 bounds-self-node g c =
     let n = c.args.self.now.network in
-    let F : Fabric = record { plan = g.L.Layout.plan n.layout; turn = g.S.Switch.turn n.switch } in
+    let F = fabric_of g.L.Layout.plan g.S.Switch.turn n in
     let x = c.requires.0 in
     place_below F x.settings (g.met.L.Layout.lawful n.layout) x.stands c.args.packet c.in-Ok.ensures.promised
 
 pub returns-in-Ok : goal.returns-in-Ok
 returns-in-Ok g c =
     let n = c.args.self.now.network in
-    let F : Fabric = record { plan = g.L.Layout.plan n.layout; turn = g.S.Switch.turn n.switch } in
+    let F = fabric_of g.L.Layout.plan g.S.Switch.turn n in
     let e = c.in-Ok.ensures in
     record {
       offered = (
@@ -39,7 +39,7 @@ returns-in-Ok g c =
 pub returns-in-Err : goal.returns-in-Err
 returns-in-Err g c =
     let n = c.args.self.now.network in
-    let F : Fabric = record { plan = g.L.Layout.plan n.layout; turn = g.S.Switch.turn n.switch } in
+    let F = fabric_of g.L.Layout.plan g.S.Switch.turn n in
     let law = g.met.L.Layout.lawful n.layout in
     let e = c.in-Err.ensures in
     let p = c.args.packet in
