@@ -43,19 +43,12 @@ loop-ticket-preserved g c =
       e.lender ∙ i.2,
     )
 
-pub returns-in_err-collect : goal.returns-in_err-collect
-returns-in_err-collect g c = let e = c.in_err-collect.ensures.tried.0 in absurd (let z : ◌≡◌ {A = ℕ} 0 1 = cc in let n : ⊥ = omega arith in n)
-
-pub returns : goal.returns
-returns g c =
+pub returns-clause-collected : goal.returns-clause-collected
+returns-clause-collected g c =
     let n = c.args.self.now.network in
     let F = fabric_of g.L.Layout.plan g.S.Switch.turn n in
     let l = c.loop-ticket in
     let i = l.invariant in
     let all : l.ticket ≡ c.args.self.now.nodes * c.args.self.now.tickets =
     let a = c.loop-ticket-test.false in let b = l.auto.ticket-end in omega arith in
-    record {
-      collected = (refl, λ P M s ls es o st. subst (λ (k : ℕ). CollectedFrom F P M c.args.cycle k l.self l.writer s ls es o) all (i.0 P M s ls es o st));
-      parts = i.1;
-      lender = i.2;
-    }
+    (refl, λ P M s ls es o st. subst (λ (k : ℕ). CollectedFrom F P M c.args.cycle k l.self l.writer s ls es o) all (i.0 P M s ls es o st))

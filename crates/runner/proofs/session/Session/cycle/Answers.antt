@@ -19,28 +19,23 @@ tell-requires g c =
     let y = carried_out F x.settings law x.stands _ refl c.new-line.ensures.queue c.requires.early c.in_ok-cycle.ensures.promised in
     tellable F x.settings law x.stands _ refl c.new-line.ensures.queue c.requires.early y
 
-pub returns : goal.returns
-returns g c =
+pub returns-clause-cycled : goal.returns-clause-cycled
+returns-clause-cycled g c =
     let n = c.args.self.now.network in
     let F = fabric_of g.L.Layout.plan g.S.Switch.turn n in
     let law = g.met.L.Layout.lawful n.layout in
     let new = c.new-line.ensures.queue in
-    let e = c.in_ok-cycle.ensures in
-    record {
-      cycled = (
-        c.tell.ensures.told.0,
-        λ P M s ls es o st early.
-            let y = carried_out F P law st _ refl new early e.promised in
-            record {
-              state = y.state;
-              line = _;
-              filled = _;
-              off = _;
-              serves = y.serves;
-              counted = y.counted;
-              stands = record { at = told_of F P law st _ refl new early y c.tell.ensures.told.1; nodes = st.nodes; tickets = st.tickets };
-            },
-      );
-      parts = e.parts;
-      lender = c.tell.ensures.lender.0;
-    }
+    let e = c.in_ok-cycle.ensures in (
+      c.tell.ensures.told.0,
+      λ P M s ls es o st early.
+          let y = carried_out F P law st _ refl new early e.promised in
+          record {
+            state = y.state;
+            line = _;
+            filled = _;
+            off = _;
+            serves = y.serves;
+            counted = y.counted;
+            stands = record { at = told_of F P law st _ refl new early y c.tell.ensures.told.1; nodes = st.nodes; tickets = st.tickets };
+          },
+    )

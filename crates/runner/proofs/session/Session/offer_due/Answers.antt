@@ -1,10 +1,10 @@
-use Rattle.std.proofs.Common.{◌+◌, List, length, sym, refl, ap, ◌∙◌, subst, arith}
+use Rattle.std.proofs.Common.{List, sym, refl, ◌∙◌, subst}
 use Rattle.network.specs.Cycle.{Fabric}
 use Rattle.calls.specs.Networks.{fabric_of}
 use Rattle.runsheet.specs.declared.parts.Packet.{Packet}
 use Rattle.runner.specs.Progress.{Going, Offered, coming, DueFrom, Left}
 use Rattle.runner.proofs.Fabrics.{same_fabric, then_same}
-use Rattle.runner.proofs.Turning.{left_due, left_later, due_none, due_more}
+use Rattle.runner.proofs.Turning.{left_due, due_none, due_more}
 use Rattle.runner.proofs.session.Session.offer_due.Goals as goal
 
 pub loop-packet-init : goal.loop-packet-init
@@ -47,23 +47,3 @@ loop-packet-preserved g c =
       e.lender ∙ i.3,
       c.next_due.ensures.lender ∙ i.4,
     )
-
-pub loop-packet-smaller : goal.loop-packet-smaller
-loop-packet-smaller g c = let e = ap length c.in-Some.ensures.due.1 in omega arith
-
-pub returns : goal.returns
-returns g c =
-    let F = fabric_of g.L.Layout.plan g.S.Switch.turn c.args.self.now.network in
-    let l = c.loop-packet in
-    let i = l.invariant in
-    let t = c.in_default.ensures.due in
-    record {
-      offered = (
-        refl,
-        λ P M s ls es o st few.
-            subst (λ (ps : List Packet). DueFrom F P M c.args.cycle (coming c.args.planned.now) ps l.self l.writer s ls es o) (sym t.0) (i.0 P M s ls es o st few),
-      );
-      left = subst (λ (ps : List Packet). Left (c.args.cycle + 1) ps) (sym t.0) (left_later c.args.cycle (coming l.planned) t.1 i.1);
-      parts = i.2;
-      lender = (i.3, c.next_due.ensures.lender ∙ i.4);
-    }

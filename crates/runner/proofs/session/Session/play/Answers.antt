@@ -66,8 +66,8 @@ mean-requires g c =
     let k = l.invariant.0 x.settings x.memory x.stands in
     (tally_few F x.settings (g.met.L.Layout.lawful n.layout) k.stands.at).waited
 
-pub returns : goal.returns
-returns g c =
+pub returns-clause-played : goal.returns-clause-played
+returns-clause-played g c =
     let n = c.args.self.now.network in
     let F = fabric_of g.L.Layout.plan g.S.Switch.turn n in
     let law = g.met.L.Layout.lawful n.layout in
@@ -77,27 +77,23 @@ returns g c =
     let t = l.self.tally in
     let last : l.cycle ≡ c.args.cycles = let a = c.loop-cycle-test.false in let b = l.auto.cycle-end in omega arith in
     let out = subst (λ (m : Option ℕ). LineOut l.writer (end_line t.entered t.off m) c.end.new.self (shown c.end.result)) c.mean.ensures c.end.ensures.line in
-    let k = i.0 x.settings x.memory x.stands in
-    record {
-      played = (
-        (ends F x.settings law k.stands c.end.result out).0,
-        λ P M st.
-            let h = i.0 P M st in
-            let w = (ends F P law h.stands c.end.result out).1 in
-            record {
-              out = _;
-              lists = record {
-                later = coming l.planned;
-                state = h.state;
-                lines = h.lines;
-                events = h.events;
-                turns = subst (λ (m : ℕ). Turns F P (coming c.args.planned.now) m (coming l.planned) h.state h.lines h.events) last h.turns;
-                bytes = refl;
-              };
-              written = w.0.lines;
-              rest = w.0.rest;
-              short = w.1;
-            },
-      );
-      lender = (c.end.ensures.lender ∙ i.3, i.4);
-    }
+    let k = i.0 x.settings x.memory x.stands in (
+      (ends F x.settings law k.stands c.end.result out).0,
+      λ P M st.
+          let h = i.0 P M st in
+          let w = (ends F P law h.stands c.end.result out).1 in
+          record {
+            out = _;
+            lists = record {
+              later = coming l.planned;
+              state = h.state;
+              lines = h.lines;
+              events = h.events;
+              turns = subst (λ (m : ℕ). Turns F P (coming c.args.planned.now) m (coming l.planned) h.state h.lines h.events) last h.turns;
+              bytes = refl;
+            };
+            written = w.0.lines;
+            rest = w.0.rest;
+            short = w.1;
+          },
+    )

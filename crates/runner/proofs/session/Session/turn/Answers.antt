@@ -1,4 +1,4 @@
-use Rattle.std.proofs.Common.{◌*◌, sym, ◌∙◌, subst, arith}
+use Rattle.std.proofs.Common.{◌*◌, sym, subst, arith}
 use Rattle.network.specs.Cycle.{Fabric}
 use Rattle.calls.specs.Networks.{fabric_of}
 use Rattle.runner.specs.Progress.{Early, Going, Cycled, Collected, coming}
@@ -33,8 +33,8 @@ collect_all-requires g c =
       numbers = let h = c.requires.early in omega arith;
     }
 
-pub returns : goal.returns
-returns g c =
+pub returns-clause-turned : goal.returns-clause-turned
+returns-clause-turned g c =
     let F = fabric_of g.L.Layout.plan g.S.Switch.turn c.args.self.now.network in
     let e = c.in_ok-offer_due.ensures in
     let f = c.in_ok-cycle.ensures in
@@ -44,14 +44,8 @@ returns g c =
     subst (λ (F : Fabric). Cycled F c.offer_due.new.self c.offer_due.new.writer z c.cycle.new.writer) (same_fabric g.L.Layout.plan g.S.Switch.turn e.parts) f.cycled.1 in
     let collected =
     subst (λ (F : Fabric). Collected F c.args.cycle (z.nodes * z.tickets) z c.cycle.new.writer c.collect_all.new.self c.collect_all.new.writer)
-    (same_fabric g.L.Layout.plan g.S.Switch.turn (then_same e.parts f.parts)) h.collected.1 in
-    record {
-      turned = (
-        h.collected.0,
-        λ P M s ls es o st now few.
-            turned F P c.args.cycle (coming c.args.planned.now) (coming c.offer_due.new.planned) st now c.requires.early few e.offered.1 cycled collected,
-      );
-      left = e.left;
-      parts = then_same (then_same e.parts f.parts) h.parts;
-      lender = (h.lender ∙ (f.lender ∙ e.lender.0), e.lender.1);
-    }
+    (same_fabric g.L.Layout.plan g.S.Switch.turn (then_same e.parts f.parts)) h.collected.1 in (
+      h.collected.0,
+      λ P M s ls es o st now few.
+          turned F P c.args.cycle (coming c.args.planned.now) (coming c.offer_due.new.planned) st now c.requires.early few e.offered.1 cycled collected,
+    )
