@@ -1,4 +1,4 @@
-use Rattle.std.proofs.Common.{◌≡◌, ℕ, [], ◌∷◌, refl, ◌∙◌, subst, subst₂, arith}
+use Rattle.std.proofs.Common.{[], ◌∷◌, refl, ◌∙◌, subst, subst₂, arith}
 use Rattle.fabric.specs.Refusals.{shown}
 use Rattle.bounds.specs.declared.settings.Settings.{Settings}
 use Rattle.line.specs.Lines.{queue_of}
@@ -50,11 +50,3 @@ loop-preserved g c =
             kept = subst (λ (P : Settings). Kept F P (cycle q ∷ cycles_after run h.lines) more.state) same more.kept;
           },
     )
-
-pub returns : goal.returns
-returns g c =
-    let n = c.args.network.now in
-    let F = fabric_of g.L.Layout.plan g.S.Switch.turn n in
-    let i = c.loop.invariant in
-    let all : c.loop.counter ≡ c.args.cycles = omega arith in
-    record { ran = λ run s f. subst (λ (k : ℕ). RanOn F n.inner c.loop.network.inner k run) all (i.1 run s f); parts = i.0 }
