@@ -4,3 +4,4 @@ pub mod Steps
 pub mod Telling
 pub mod Follow
 pub mod Midway
+pub mod Networks

@@ -9,6 +9,7 @@ ghost use Rattle.network.specs.Runs.Call.{offer as offers, cycle as cycles, coll
 ghost use Rattle.network.specs.Runs.Outcome.{offering, cycling, collecting, looking};
 ghost use Rattle.calls.specs.Follow.{declined, Promised, Begins, OffWithin};
 ghost use Rattle.calls.specs.Midway.{NodeWorks};
+ghost use Rattle.calls.specs.Networks.{fabric_of, SameParts};
 
 use super::steps::{spread, wishes};
 use super::tables::{EMPTY, SLOTS, Tables};
@@ -42,7 +43,7 @@ pub struct Network<L, S> {
 
 impl<L: Layout, S: Switch> Network<L, S> {
     pub fn new(layout: L, switch: S) -> Network<L, S>
-        ensures begins { Begins (record { plan = L.plan layout; turn = S.turn switch }) (record { tickets = 1; words = 1; epoch = 4096; seed = 1 }) result.inner }
+        ensures begins { Begins (fabric_of L.plan S.turn result) (record { tickets = 1; words = 1; epoch = 4096; seed = 1 }) result.inner }
         ensures parts { (result.layout ≡ layout) × (result.switch ≡ switch) }
     {
         let inner = Tables::fresh(FIRST);
@@ -56,9 +57,9 @@ impl<L: Layout, S: Switch> Network<L, S> {
     // No cycle is carried out then, all slots are empty and all tickets free.
     pub fn set_up(&mut self, settings: Settings) -> Result<(), Refusal>
         ensures exact { shown result ≡ set_up_verdict (L.plan self.old.layout) settings }
-        ensures begins { shown result ≡ granted tt → Begins (record { plan = L.plan self.old.layout; turn = S.turn self.old.switch }) settings self.new.inner }
+        ensures begins { shown result ≡ granted tt → Begins (fabric_of L.plan S.turn self.old) settings self.new.inner }
         ensures unchanged { declined (shown result) ≡ true → self.new.inner ≡ self.old.inner }
-        ensures parts { (self.new.layout ≡ self.old.layout) × (self.new.switch ≡ self.old.switch) }
+        ensures parts { SameParts self.old self.new }
     {
         settings.judge(&self.layout)?;
         self.inner = Tables::fresh(settings);
@@ -68,7 +69,7 @@ impl<L: Layout, S: Switch> Network<L, S> {
     // Within so many cycles of being injected a flit is ejected, whatever traffic there is.
     pub fn limit(&self) -> usize
         ensures exact { result ≡ latest (L.plan self.now.layout) self.now.inner.settings }
-        ensures promised { OffWithin (record { plan = L.plan self.now.layout; turn = S.turn self.now.switch }) self.now.inner result }
+        ensures promised { OffWithin (fabric_of L.plan S.turn self.now) self.now.inner result }
     {
         let Settings { tickets, epoch, .. } = self.inner.settings;
         (self.layout.nodes() * tickets + 1) * epoch
@@ -82,8 +83,8 @@ impl<L: Layout, S: Switch> Network<L, S> {
         destination: usize,
         words: &[u32],
     ) -> Result<(), Refusal>
-        ensures promised { Promised (record { plan = L.plan self.old.layout; turn = S.turn self.old.switch }) self.old.inner self.new.inner (offers node own destination words.now) (offering (shown result)) }
-        ensures parts { (self.new.layout ≡ self.old.layout) × (self.new.switch ≡ self.old.switch) }
+        ensures promised { Promised (fabric_of L.plan S.turn self.old) self.old.inner self.new.inner (offers node own destination words.now) (offering (shown result)) }
+        ensures parts { SameParts self.old self.new }
     {
         let nodes = self.layout.nodes();
         if node >= nodes || own >= self.inner.settings.tickets {
@@ -111,8 +112,8 @@ impl<L: Layout, S: Switch> Network<L, S> {
         own: usize,
         memory: &mut [u32],
     ) -> Result<usize, Refusal>
-        ensures promised { Promised (record { plan = L.plan self.old.layout; turn = S.turn self.old.switch }) self.old.inner self.new.inner (collects receiver sender own memory.old) (collecting (shown result) memory.new) }
-        ensures parts { (self.new.layout ≡ self.old.layout) × (self.new.switch ≡ self.old.switch) }
+        ensures promised { Promised (fabric_of L.plan S.turn self.old) self.old.inner self.new.inner (collects receiver sender own memory.old) (collecting (shown result) memory.new) }
+        ensures parts { SameParts self.old self.new }
     {
         let nodes = self.layout.nodes();
         if receiver >= nodes || sender >= nodes || own >= self.inner.settings.tickets {
@@ -134,7 +135,7 @@ impl<L: Layout, S: Switch> Network<L, S> {
 
     // The flit behind a port of a node, if one is there.
     pub fn look(&self, node: usize, port: usize) -> Result<Option<Flit>, Refusal>
-        ensures promised { Promised (record { plan = L.plan self.now.layout; turn = S.turn self.now.switch }) self.now.inner self.now.inner (looks node port) (looking (shown result)) }
+        ensures promised { Promised (fabric_of L.plan S.turn self.now) self.now.inner self.now.inner (looks node port) (looking (shown result)) }
     {
         if node >= self.layout.nodes() || port >= PORTS {
             return Err(Refusal::Missing);
@@ -151,8 +152,8 @@ impl<L: Layout, S: Switch> Network<L, S> {
         arriving: &mut [Option<Flit>; SLOTS],
     ) -> usize
         requires { node < (L.plan self.old.layout).nodes }
-        ensures works { NodeWorks (record { plan = L.plan self.old.layout; turn = S.turn self.old.switch }) self.old.inner self.new.inner node golden arriving.old arriving.new (queue_of line.old) (queue_of line.new) result }
-        ensures parts { (self.new.layout ≡ self.old.layout) × (self.new.switch ≡ self.old.switch) }
+        ensures works { NodeWorks (fabric_of L.plan S.turn self.old) self.old.inner self.new.inner node golden arriving.old arriving.new (queue_of line.old) (queue_of line.new) result }
+        ensures parts { SameParts self.old self.new }
         ensures lender { line.new.memory.ghost_name ≡ line.old.memory.ghost_name }
     {
         let (left, off) = self.inner.take_off(node, golden, line);
@@ -166,8 +167,8 @@ impl<L: Layout, S: Switch> Network<L, S> {
 
     // Carries out one cycle. Answers how many flits were ejected; the line tells of each flit ejected or injected.
     pub fn cycle(&mut self, line: &mut Line<Event>) -> Result<usize, Refusal>
-        ensures promised { Promised (record { plan = L.plan self.old.layout; turn = S.turn self.old.switch }) self.old.inner self.new.inner (cycles (queue_of line.old)) (cycling (shown result) (queue_of line.new)) }
-        ensures parts { (self.new.layout ≡ self.old.layout) × (self.new.switch ≡ self.old.switch) }
+        ensures promised { Promised (fabric_of L.plan S.turn self.old) self.old.inner self.new.inner (cycles (queue_of line.old)) (cycling (shown result) (queue_of line.new)) }
+        ensures parts { SameParts self.old self.new }
         ensures lender { line.new.memory.ghost_name ≡ line.old.memory.ghost_name }
     {
         if self.inner.cycles >= MOST_CYCLES {

@@ -41,10 +41,8 @@ fn main(rt: HostRuntime) -> anyhow::Result<()> {
     let mut text = Vec::new(rt.alloc());
     rt.stdin().take(MOST_READ).read_to_end(&mut text)?;
     match reply(text.as_slice()) {
-        Ok(answer) => match answer {
-            Answer::OnMesh(mesh, limits) => report(&rt, &mesh, limits),
-            Answer::OnCables(layout, limits) => report(&rt, &layout, limits),
-        },
+        Ok(Answer::OnMesh(mesh, limits)) => report(&rt, &mesh, limits),
+        Ok(Answer::OnCables(layout, limits)) => report(&rt, &layout, limits),
         Err(fault) => {
             println!(rt; "{fault}")?;
             Ok(())

@@ -11,8 +11,5 @@ use runner::list::list;
 pub extern "C" fn magbolisu_list(sheet: &[u8], memory: &mut [u8]) -> usize
     ensures { Answered sheet.now memory.old result memory.new }
 {
-    match list(sheet, memory) {
-        Ok(len) => len,
-        Err(_) => 0,
-    }
+    list(sheet, memory).unwrap_or(0)
 }

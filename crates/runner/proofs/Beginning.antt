@@ -1,12 +1,11 @@
 -- A session whose network was just set up.
-use Rattle.std.proofs.Common.{◌≡◌, ℕ, zero, suc, List, [], ◌∷◌, ◌++◌, map, get_or, replicate, None, Option, sym, refl, ◌∙◌, subst, ap₂, subst₂, arith}
+use Rattle.std.proofs.Common.{◌≡◌, ℕ, zero, suc, List, [], ◌∷◌, ◌++◌, map, length, get_or, replicate, None, Option, sym, refl, ap, ◌∙◌, subst, ap₂, subst₂, arith}
 use Rattle.std.specs.List.{AllByRecursion}
 use Rattle.bounds.specs.declared.settings.Settings.{Settings}
 use Rattle.fabric.specs.Verdicts.Verdict.{granted}
 use Rattle.bounds.specs.SetUp.{set_up_verdict}
 use Rattle.network.specs.Cycle.{Fabric}
 use Rattle.network.specs.Runs.{fresh}
-use Rattle.calls.specs.declared.tables.Tables.{Tables}
 use Rattle.calls.specs.Follow.{Begins}
 use Rattle.runsheet.specs.declared.parts.Packet.{Packet}
 use Rattle.runsheet.specs.Said.{Said}
@@ -14,10 +13,11 @@ use Rattle.runsheet.specs.Texts.{Fits}
 use Rattle.runsheet.specs.Sheets.{Sized, Formed, packet_line, cable_line}
 use Rattle.writer.specs.declared.writer.Writer.{Writer}
 use Rattle.writer.specs.Listings.{beyond}
-use Rattle.runner.specs.declared.tally.Tally.{Tally}
+use Rattle.runner.specs.Tallies.{Tallied}
+use Rattle.runner.specs.declared.session.Session.{Session}
 use Rattle.laying.specs.Layings.{settings_of}
 use Rattle.runner.specs.Listing.{Lists}
-use Rattle.runner.specs.Progress.{At, Sendable, Left, PlayedFrom}
+use Rattle.runner.specs.Progress.{Stands, Sendable, Left, PlayedFrom}
 use Rattle.runner.specs.Answering.{Blank, Ran}
 
 abbrev pub none : Option ℕ
@@ -28,26 +28,28 @@ none_aimed zero t = refl
 none_aimed (suc n) zero = refl
 none_aimed (suc n) (suc t) = none_aimed n t
 
-abbrev pub no_tally : Tally
-no_tally = record { entered = 0; off = 0; waited = 0 }
-
 -- nothing has happened, and nothing is written
-pub at_first : {F : Fabric} {P : Settings} {i : Tables} {w : Writer} → Begins F P i → Blank w → At F P (beyond w) i (replicate 512 none) no_tally w fresh [] [] 0
-at_first {F} {P} {i} {w} b h =
+pub at_first : {A B : Type 0} {F : Fabric} {P : Settings} {x : Session A B} {w : Writer} → Begins F P x.network.inner → Blank w → x.nodes ≡ F.plan.nodes → x.tickets ≡ P.tickets →
+    x.aims ≡ replicate 512 none → Tallied x.tally [] → Stands F P (beyond w) x w fresh [] [] 0
+at_first b h nodes tickets aims tallied =
     record {
-      run = [];
-      follows = b.follows;
-      settings = b.settings;
-      aimed = λ t l. none_aimed 512 t;
-      places = refl;
-      events = refl;
-      narrow = tt;
-      tallied = record { entered = refl; off = refl; waited = refl; short = omega arith };
-      written = h.none;
-      room = let r = h.room in omega arith;
-      rest = refl;
-      spent = record { declined = 0; packets = refl; bytes = omega arith };
-      few = omega arith;
+      at = record {
+        run = [];
+        follows = b.follows;
+        settings = b.settings;
+        aimed = λ t l. ap (λ (a : List (Option ℕ)). get_or a t None) aims ∙ none_aimed 512 t;
+        places = ap length aims;
+        events = refl;
+        narrow = tt;
+        tallied = tallied;
+        written = h.none;
+        room = let r = h.room in omega arith;
+        rest = refl;
+        spent = record { declined = 0; packets = refl; bytes = omega arith };
+        few = omega arith;
+      };
+      nodes = nodes;
+      tickets = tickets;
     }
 
 all_after : {X : Type 0} (Q : X → Type 0) (xs ys : List X) → AllByRecursion Q (xs ++ ys) → AllByRecursion Q ys

@@ -1,9 +1,9 @@
 pub mod Beginning
 pub mod Events
+pub mod Fabrics
 pub mod Listing
 pub mod Only
 pub mod Pages
-pub mod Planning
 pub mod Sessions
 pub mod Steps
 pub mod Telling

@@ -37,11 +37,6 @@ use Rattle.runner.proofs.Events.{ins_append, outs_append, under_way_append}
 use Rattle.runner.proofs.Steps.{own_below, offered_at, declined_at, lines_few, room_left, tally_few, most_tickets, Cycled, cycled_at, not_refused, Numbered, numbered, busy, not_busy, Brought, brought_at, left_at}
 use Rattle.runner.proofs.Telling.{ok_shown}
 
--- the network's layout and switch stay
-pub record SameParts {A B : Type 0} (x y : Session A B) : Type 0 where
-  pub layout : y.network.layout ≡ x.network.layout
-  pub switch : y.network.switch ≡ x.network.switch
-
 -- a refusal's number has two digits at most
 pub number_small : (r : Refusal) → number_of_lem r < 100
 number_small Limits = omega arith

@@ -1,5 +1,5 @@
 -- One cycle of a run, put together from its offers, its cycle and its collections.
-use Rattle.std.proofs.Common.{◌≡◌, ℕ, ◌+◌, ◌*◌, ◌<◌, ◌≤◌, List, [], ◌∷◌, ◌++◌, map, length, Some, None, Option, sym, refl, ap, ◌∙◌, subst, subst₂, append_assoc, append-nil, arith}
+use Rattle.std.proofs.Common.{◌≡◌, ℕ, ◌+◌, ◌*◌, ◌<◌, ◌≤◌, List, [], ◌∷◌, ◌++◌, map, length, sym, refl, ap, ◌∙◌, subst, subst₂, append_assoc, append-nil, arith}
 use Rattle.std.specs.List.{AllByRecursion}
 use Rattle.std.proofs.lemmas.List.{length-append}
 use Rattle.std.proofs.ByRecursion.{All-append}
@@ -17,20 +17,15 @@ use Rattle.runner.specs.Listing.{line_of, Collects, Turns}
 use Rattle.runner.specs.Listing.Offers.{none as none_offered}
 use Rattle.runner.specs.Listing.Collects.{none as none_collected}
 use Rattle.runner.specs.Listing.Turns.{begun, one_more}
-use Rattle.runner.specs.Progress.{Stands, Offered, to_come, DueFrom, Due, Left, Cycled, Tried, CollectedFrom, Collected, TurnedFrom, Turned, Through}
-
--- what a take leaves to come
-pub taken_next : (r : Option Packet) (before after : List Packet) →
-    (elim r as (λ _. Type 0) [ Some x ↦ before ≡ x ∷ after | None ↦ (before ≡ []) × (after ≡ []) ]) → to_come r after ≡ before
-taken_next (Some x) before after e = sym e
-taken_next None before after e = sym e.0
+use Rattle.runner.specs.Progress.{Stands, Offered, NoneDue, DueFrom, Due, Left, Cycled, Tried, CollectedFrom, Collected, TurnedFrom, Turned, Through}
 
 -- the packets that are left
 pub left_due : (c : ℕ) (p : Packet) (rest : List Packet) → p.cycle ≡ c → Left c (p ∷ rest) → Left c rest
 left_due c p rest e l = record { rising = subst (λ (k : ℕ). Rising k rest) e l.rising.1; sendable = l.sendable.1 }
 
-pub left_later : (c : ℕ) (p : Packet) (rest : List Packet) → (p.cycle ≡ c → ⊥) → Left c (p ∷ rest) → Left (c + 1) (p ∷ rest)
-left_later c p rest n l = record { rising = (let h = l.rising.0 in omega (arith, n), l.rising.1); sendable = l.sendable }
+pub left_later : (c : ℕ) (ps : List Packet) → NoneDue c ps → Left c ps → Left (c + 1) ps
+left_later c [] n l = record { rising = tt; sendable = tt }
+left_later c (p ∷ rest) n l = record { rising = (let h = l.rising.0 in omega (arith, n), l.rising.1); sendable = l.sendable }
 
 same_lines : {A B : Type 0} {F : Fabric} {P : Settings} {M : List ℕ} {x : Session A B} {w : Writer} {r : State} {es : List Event} {ls ls' : List (List Field)} {o o' : ℕ} →
     ls ≡ ls' → o ≡ o' → Stands F P M x w r ls es o → Stands F P M x w r ls' es o'

@@ -26,9 +26,13 @@ abbrev pub turn_of : SwitchKind → Handing → Turn
 turn_of Chipper = chipper_turn
 turn_of Bless = bless_turn
 
+-- what a network of a layout of this plan and a switch of this turn is made of
+abbrev pub made_of : Plan → (Handing → Turn) → Fabric
+made_of p t = record { plan = p; turn = t }
+
 -- what a sheet's network is made of, on a layout of this plan
 abbrev pub network_of : Plan → Said → Fabric
-network_of p s = record { plan = p; turn = turn_of s.kind }
+network_of p s = made_of p (turn_of s.kind)
 
 -- the layout is judged before the settings: the plan, or a fault
 abbrev pub Judged : Said → Report Plan → Type 0

@@ -3,6 +3,7 @@ use Rattle.std.specs.Prelude.{◌≡◌, ℕ, ◌+◌, ◌*◌, ◌^◌, ◌<◌
 use Rattle.std.specs.List.{AllByRecursion}
 use Rattle.fabric.specs.Verdicts.Verdict.{granted}
 use Rattle.line.specs.Queues.{Queue}
+use Rattle.line.specs.Lines.{holds}
 use Rattle.bounds.specs.declared.settings.Settings.{Settings}
 use Rattle.bounds.specs.SetUp.{all_tickets}
 use Rattle.network.specs.declared.event.Event.{Event}
@@ -22,6 +23,7 @@ use Rattle.writer.specs.declared.writer.Writer.{Writer}
 use Rattle.writer.specs.Listings.{listed, beyond}
 use Rattle.runner.specs.declared.tally.Tally.{Tally}
 use Rattle.runner.specs.declared.session.Session.{Session}
+use Rattle.runner.specs.declared.planned.Planned.{Planned}
 use Rattle.network.specs.Counts.{offers, entries, collections}
 use Rattle.runner.specs.Listing.{Offers, Collects, Turn, Turns, Lists, line_of}
 use Rattle.runner.specs.Tallies.{Tallied}
@@ -97,6 +99,18 @@ Offered F p x w y v = (P : Settings) (M : List ℕ) (s : State) (ls : List (List
 abbrev pub to_come : Option Packet → List Packet → List Packet
 to_come None ps = []
 to_come (Some p) ps = p ∷ ps
+
+abbrev pub coming : Planned → List Packet
+coming p = to_come p.next (holds p.rest)
+
+-- the first of the packets is not due in cycle c, if there is one
+abbrev pub NoneDue : ℕ → List Packet → Type 0
+NoneDue c [] = Unit {0}
+NoneDue c (p ∷ ps) = p.cycle ≡ c → ⊥
+
+-- the packets wait in the same memory
+abbrev pub SamePlaces : Planned → Planned → Type 0
+SamePlaces p q = q.rest.memory.ghost_name ≡ p.rest.memory.ghost_name
 
 -- a session under way before cycle c, with packets that come yet
 pub record Ready {A B : Type 0} (F : Fabric) (c : ℕ) (coming : List Packet) (x : Session A B) (w : Writer) : Type 0 where

@@ -2,5 +2,6 @@
 #![tactic(auto)]
 
 pub mod list;
+mod planned;
 mod session;
 mod tally;

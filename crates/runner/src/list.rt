@@ -1,20 +1,18 @@
 // The listing of a run sheet, or of its fault.
-ghost use Rattle.std.specs.Prelude.{◌≡◌, ◌≤◌, ◌++◌, length, Ok};
 ghost use Rattle.fabric.specs.Refusals.{shown};
-ghost use Rattle.line.specs.Lines.{queue_of, holds};
-ghost use Rattle.line.specs.Queues.{free_places};
 ghost use Rattle.runsheet.specs.Said.{said};
 ghost use Rattle.runsheet.specs.Sheets.{Formed};
-ghost use Rattle.runner.specs.Answering.{network_of, WrittenOut, Blank, Ran, Ended, Carried};
+ghost use Rattle.writer.specs.Listings.{SameLender};
+ghost use Rattle.runner.specs.Answering.{made_of, network_of, WrittenOut, Blank, Ran, Ended, Carried};
 ghost use Rattle.runner.specs.Only.{OneListing};
 
+use super::planned::Planned;
 use super::session::{Session, TICKETS};
 use super::tally::Tally;
 use calls::Network;
 use fabric::layout::Layout;
 use fabric::refusal::Refusal;
 use laying::{at_run_line, lay_cables, lay_mesh, settings};
-use line::Line;
 use runsheet::fault::Fault;
 use runsheet::parts::{Packet, Shape, SwitchKind};
 use runsheet::reader::read;
@@ -38,18 +36,6 @@ const NO_PACKET: Packet = Packet {
     words: [0; 4],
 };
 
-// The packets wait in the order of the sheet.
-fn plan_all(packets: &[Packet], planned: &mut Line<Packet>) -> Result<(), Refusal>
-    requires { length packets.now ≤ free_places (queue_of planned.old) }
-    ensures planned { (result ≡ Ok tt) × (holds planned.new ≡ holds planned.old ++ packets.now) }
-    ensures lender { planned.new.memory.ghost_name ≡ planned.old.memory.ghost_name }
-{
-    for packet in packets {
-        planned.put(*packet)?;
-    }
-    Ok(())
-}
-
 // The sheet's run in a network of this layout and this switch.
 fn start<L: Layout + Drop, S: Switch + Drop>(
     layout: L,
@@ -58,8 +44,8 @@ fn start<L: Layout + Drop, S: Switch + Drop>(
     writer: &mut Writer,
 ) -> Result<(), Refusal>
     requires { (Formed 128 256 (said sheet.now)) × (Blank writer.old) }
-    ensures ran { Ran (record { plan = L.plan layout; turn = S.turn switch }) (said sheet.now) writer.old writer.new (shown result) }
-    ensures lender { writer.new.memory.ghost_name ≡ writer.old.memory.ghost_name }
+    ensures ran { Ran (made_of (L.plan layout) (S.turn switch)) (said sheet.now) writer.old writer.new (shown result) }
+    ensures lender { SameLender writer.old writer.new }
 {
     let nodes = layout.nodes();
     let settings = settings(sheet.run);
@@ -70,15 +56,10 @@ fn start<L: Layout + Drop, S: Switch + Drop>(
         nodes,
         tickets: settings.tickets,
         aims: [None; TICKETS],
-        tally: Tally {
-            entered: 0,
-            off: 0,
-            waited: 0,
-        },
+        tally: Tally::default(),
     };
     let mut places = [NO_PACKET; PACKETS];
-    let mut planned = Line::new(&mut places);
-    plan_all(sheet.packets(), &mut planned)?;
+    let mut planned = Planned::new(sheet.packets(), &mut places)?;
     session.play(sheet.run.cycles, &mut planned, writer)
 }
 
@@ -89,20 +70,17 @@ fn run<L: Layout + Drop, S: Switch + Drop>(
     writer: &mut Writer,
 ) -> Result<(), Fault>
     requires { (Formed 128 256 (said sheet.now)) × (Blank writer.old) }
-    ensures ended { Ended (record { plan = L.plan layout; turn = S.turn switch }) (said sheet.now) writer.old writer.new result }
-    ensures lender { writer.new.memory.ghost_name ≡ writer.old.memory.ghost_name }
+    ensures ended { Ended (made_of (L.plan layout) (S.turn switch)) (said sheet.now) writer.old writer.new result }
+    ensures lender { SameLender writer.old writer.new }
 {
-    match start(layout, switch, sheet, writer) {
-        Ok(()) => Ok(()),
-        Err(refusal) => Err(at_run_line(refusal)),
-    }
+    start(layout, switch, sheet, writer).map_err(at_run_line)
 }
 
 // The sheet's run on this layout, with the sheet's kind of switch.
 fn run_on<L: Layout + Drop>(layout: L, sheet: &Sheet, writer: &mut Writer) -> Result<(), Fault>
     requires { (Formed 128 256 (said sheet.now)) × (Blank writer.old) }
     ensures ended { Ended (network_of (L.plan layout) (said sheet.now)) (said sheet.now) writer.old writer.new result }
-    ensures lender { writer.new.memory.ghost_name ≡ writer.old.memory.ghost_name }
+    ensures lender { SameLender writer.old writer.new }
 {
     match sheet.kind {
         SwitchKind::Chipper => run(layout, Chipper, sheet, writer),
@@ -113,7 +91,7 @@ fn run_on<L: Layout + Drop>(layout: L, sheet: &Sheet, writer: &mut Writer) -> Re
 fn carry_out(bytes: &[u8], writer: &mut Writer) -> Result<(), Fault>
     requires { Blank writer.old }
     ensures carried { Carried bytes.now writer.old writer.new result }
-    ensures lender { writer.new.memory.ghost_name ≡ writer.old.memory.ghost_name }
+    ensures lender { SameLender writer.old writer.new }
 {
     let sheet = read(bytes)?;
     match sheet.shape {
@@ -137,11 +115,8 @@ pub fn list(sheet: &[u8], memory: &mut [u8]) -> Result<usize, Refusal>
         return Err(Refusal::Memory);
     }
     let mut writer = Writer::new(memory);
-    match carry_out(sheet, &mut writer) {
-        Ok(()) => Ok(writer.len()),
-        Err(fault) => {
-            writer.fault(fault)?;
-            Ok(writer.len())
-        }
+    if let Err(fault) = carry_out(sheet, &mut writer) {
+        writer.fault(fault)?;
     }
+    Ok(writer.len())
 }

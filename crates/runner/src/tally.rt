@@ -2,7 +2,7 @@
 
 mod events;
 
-#[derive(Clone, Copy)]
+#[derive(Clone, Copy, Default)]
 pub(crate) struct Tally {
     // flits injected, and flits ejected
     pub entered: u32,

@@ -58,29 +58,24 @@ fn destination(node: usize) -> usize {
 }
 
 fn lawful<T: Drop>(res: Result<T, Refusal>) -> anyhow::Result<T> {
-    match res {
-        Ok(value) => Ok(value),
-        Err(_) => Err(anyhow!("a call is refused")),
-    }
+    res.map_err(|_| anyhow!("a call is refused"))
 }
 
 // Prints the events of a cycle: cycle, kind, ticket, flit number and node.
 fn tell(rt: &HostRuntime, line: &mut Line<Event>) -> anyhow::Result<()> {
-    for _ in 0..line.len() {
-        if let Some(event) = line.take() {
-            let Event {
-                cycle,
-                ticket,
-                number,
-                node,
-                ..
-            } = event;
-            let kind = match event.kind {
-                Kind::In => "in",
-                Kind::Out => "out",
-            };
-            println!(rt; "{cycle} {kind} {ticket} {number} {node}")?;
-        }
+    while let Some(event) = line.take() {
+        let Event {
+            cycle,
+            ticket,
+            number,
+            node,
+            ..
+        } = event;
+        let kind = match event.kind {
+            Kind::In => "in",
+            Kind::Out => "out",
+        };
+        println!(rt; "{cycle} {kind} {ticket} {number} {node}")?;
     }
     Ok(())
 }

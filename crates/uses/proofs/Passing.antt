@@ -18,6 +18,7 @@ use Rattle.network.specs.Runs.Outcome.{offering, cycling, collecting, looking}
 use Rattle.network.specs.Computed.{outcome, after}
 use Rattle.network.proofs.Solving.{served_one}
 use Rattle.calls.specs.declared.calls.Network.{Network}
+use Rattle.calls.specs.Networks.{SameParts}
 use Rattle.calls.specs.declared.tables.Tables.{Tables}
 use Rattle.calls.specs.Follow.{Promised, Served, Answers, Exactly, Begins}
 use Rattle.calls.specs.Follow.Served.{begun, one_more as served_more}
@@ -116,9 +117,8 @@ module _ {C : Type 0} where
   plan_of n = mesh_plan n.layout.width n.layout.height
 
   -- a call takes one network to another
-  pub record Moves (n m : Network Mesh C) (k : Call) (o : Outcome) : Type 0 where
-    pub promised : Promised (over (plan_of n)) n.inner m.inner k o
-    pub layout : m.layout ≡ n.layout
+  abbrev pub Moves : Network Mesh C → Network Mesh C → Call → Outcome → Type 0
+  Moves n m k o = Promised (over (plan_of n)) n.inner m.inner k o × SameParts n m
 
   -- the calls of a network of two nodes bring these words
   pub brings : (mesh : Mesh) (z n a b c d j : Network Mesh C) {k h : Call} {q r s t : Queue Event} {o : Outcome} {v w x y : Verdict ℕ} {m : List ℕ} →
@@ -127,10 +127,10 @@ module _ {C : Type 0} where
       Moves n a k o → Moves a b (cycle q) (cycling v r) → Moves b c (cycle r) (cycling w s) → Moves c d (cycle s) (cycling x t) →
       Moves d j h (collecting y m) → Brings k h → (y, m) ≡ words
   brings mesh z n a b c d j {k} {h} {q} {r} {s} {t} {o} {v} {w} {x} {y} {m} two_nodes its set same l offers one two three collects last =
-      let at_a : a.layout ≡ z.layout = offers.layout ∙ same in
-      let at_b : b.layout ≡ z.layout = one.layout ∙ at_a in
-      let at_c : c.layout ≡ z.layout = two.layout ∙ at_b in
-      let at_d : d.layout ≡ z.layout = three.layout ∙ at_c in
+      let at_a : a.layout ≡ z.layout = offers.1.0 ∙ same in
+      let at_b : b.layout ≡ z.layout = one.1.0 ∙ at_a in
+      let at_c : c.layout ≡ z.layout = two.1.0 ∙ at_b in
+      let at_d : d.layout ≡ z.layout = three.1.0 ∙ at_c in
       brings_so n.inner a.inner b.inner c.inner d.inner j.inner k h q r s t o v w x y m
       (subst (λ (p : Plan). Begins (over p) small n.inner) e set) l
       (here n a same offers) (here a b at_a one) (here b c at_b two) (here c d at_c three) (here d j at_d collects) last
@@ -140,4 +140,4 @@ module _ {C : Type 0} where
 
       here : (f g : Network Mesh C) {k : Call} {o : Outcome} → f.layout ≡ z.layout → Moves f g k o → Promised net f.inner g.inner k o
       here f g {k} {o} at moves =
-          subst (λ (p : Plan). Promised (over p) f.inner g.inner k o) (ap (λ (x : Mesh). mesh_plan x.width x.height) at ∙ e) moves.promised
+          subst (λ (p : Plan). Promised (over p) f.inner g.inner k o) (ap (λ (x : Mesh). mesh_plan x.width x.height) at ∙ e) moves.0

@@ -1,5 +1,6 @@
 // A loop of cycles.
 ghost use Rattle.std.specs.Prelude.{◌≡◌, List};
+ghost use Rattle.calls.specs.Networks.{fabric_of, SameParts};
 ghost use Rattle.network.specs.Cycle.{State};
 ghost use Rattle.network.specs.Runs.{Call};
 ghost use Rattle.calls.specs.Follow.{Follows};
@@ -17,8 +18,8 @@ pub fn run_on<L: Layout, S: Switch>(
     line: &mut Line<Event>,
     cycles: u32,
 )
-    ensures ran { (run : List Call) (s : State) → Follows (record { plan = L.plan network.old.layout; turn = S.turn network.old.switch }) network.old.inner run s → RanOn (record { plan = L.plan network.old.layout; turn = S.turn network.old.switch }) network.old.inner network.new.inner cycles run }
-    ensures parts { (network.new.layout ≡ network.old.layout) × (network.new.switch ≡ network.old.switch) }
+    ensures ran { (run : List Call) (s : State) → Follows (fabric_of L.plan S.turn network.old) network.old.inner run s → RanOn (fabric_of L.plan S.turn network.old) network.old.inner network.new.inner cycles run }
+    ensures parts { SameParts network.old network.new }
 {
     for _ in 0..cycles {
         let _ = network.cycle(line);

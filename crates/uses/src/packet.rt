@@ -45,8 +45,6 @@ pub fn two_words() -> Result<[u32; 2], Refusal>
     let _ = network.cycle(&mut line);
     let _ = network.cycle(&mut line);
     let _ = network.cycle(&mut line);
-    match network.collect(TO, FROM, 0, &mut received) {
-        Ok(_) => Ok(received),
-        Err(refusal) => Err(refusal),
-    }
+    network.collect(TO, FROM, 0, &mut received)?;
+    Ok(received)
 }

@@ -1,6 +1,7 @@
 -- One text written after another.
-use Rattle.std.proofs.Common.{◌≡◌, ℕ, zero, suc, ◌+◌, ◌/◌, ◌%◌, ◌^◌, ◌<◌, ◌≤◌, true, false, List, [], ◌∷◌, ◌++◌, map, length, get_or, take, drop, is_some, Some, None, codes, decimal, Option, sym, refl, ap, ◌∙◌, subst, append_assoc, arith}
+use Rattle.std.proofs.Common.{◌≡◌, ℕ, zero, suc, ◌+◌, ◌*◌, ◌/◌, ◌%◌, ◌^◌, ◌<◌, ◌≤◌, true, false, List, [], ◌∷◌, ◌++◌, map, length, get_or, take, drop, is_some, IfSome, IfNone, unwrap_or, Some, None, codes, decimal, Option, sym, refl, ap, ◌∙◌, subst, append_assoc, arith}
 use Rattle.std.specs.List.{flat_map}
+use Rattle.std.proofs.Math.Nat.{pow-succ'}
 use Rattle.std.proofs.lemmas.Fmt.{decimal_step, decimal_digit, length-decimal-le}
 use Rattle.std.proofs.lemmas.List.{append-nil, length-append, length_push, length-drop, drop-drop, take_more, map_push, flat_map_more}
 use Rattle.runsheet.specs.Texts.{Field, word, number, shown, row, written}
@@ -10,9 +11,6 @@ use Rattle.writer.specs.Listings.{listed, beyond, Appends, mean_word, fault_fiel
 use Rattle.writer.specs.Steps.{Puts, figures, spread, Leaves}
 use Rattle.writer.specs.declared.writer.Writer.{Writer}
 
-pub appends_none : (w : Writer) → Appends w [] w
-appends_none w = record { listed = sym (append-nil (listed w)); beyond = refl }
-
 pub appends_both : (w v u : Writer) (a b : List ℕ) → Appends w a v → Appends v b u → Appends w (a ++ b) u
 appends_both w v u a b f g =
     record {
@@ -20,15 +18,9 @@ appends_both w v u a b f g =
       beyond = g.beyond ∙ ap (drop (length b)) f.beyond ∙ drop-drop (length b) (length a) (beyond w) ∙ ap (λ k. drop k (beyond w)) (sym (length-append a b));
     }
 
-pub puts_none : (w : Writer) → Puts w [] w
-puts_none w = record { appends = appends_none w; lender = refl; room = omega arith }
-
 pub puts_both : (w v u : Writer) (a b : List ℕ) → Puts w a v → Puts v b u → Puts w (a ++ b) u
 puts_both w v u a b f g =
     record { appends = appends_both w v u a b f.appends g.appends; lender = g.lender ∙ f.lender; room = omega (arith, length-append a b) }
-
-pub at_room : (w : Writer) → 1 ≤ length (beyond w) → w.len < length w.memory.now
-at_room w h = omega (arith, length-drop w.len w.memory.now)
 
 -- the digits of a number
 pub length_step : (n : ℕ) → 10 ≤ n → n < 2 ^ 32 → length (decimal n) ≡ length (decimal (n / 10)) + 1
@@ -36,6 +28,23 @@ length_step n h k = ap length (decimal_step n h (omega arith)) ∙ length_push (
 
 pub length_digit : (n : ℕ) → n < 10 → length (decimal n) ≡ 1
 length_digit n h = ap length (decimal_digit n h)
+
+-- as many as a power of ten that the number reaches, and one more
+pub length_power : (k n : ℕ) → 10 ^ k ≤ n → n < 10 * 10 ^ k → n < 2 ^ 32 → length (decimal n) ≡ k + 1
+length_power zero n l h m = length_digit n (omega arith)
+length_power (suc k) n l h m =
+    let e = pow-succ' 10 k in
+    let p = one_le_pow k in
+    let i = length_power k (n / 10) (omega arith) (omega arith) (omega arith) in
+    omega (arith, length_step n (omega arith) m)
+  where
+    one_le_pow : (k : ℕ) → 1 ≤ 10 ^ k
+    one_le_pow zero = omega arith
+    one_le_pow (suc k) = let e = pow-succ' 10 k in let i = one_le_pow k in omega arith
+
+pub by_powers : (r : Option ℕ) (n : ℕ) → IfNone r (n ≡ 0) → IfSome r (λ k. 10 ^ k ≤ n) → IfSome r (λ k. n < 10 * 10 ^ k) → n < 2 ^ 32 → length (decimal n) ≡ unwrap_or r 0 + 1
+by_powers None n e l h m = length_digit n (omega arith)
+by_powers (Some k) n e l h m = length_power k n l h m
 
 -- a number of 32 bits has at most ten digits
 pub digits_ten : (n : ℕ) → n < 2 ^ 32 → length (decimal n) ≤ 10

@@ -43,6 +43,10 @@ listed w = take w.len w.memory.now
 abbrev pub beyond : Writer → List ℕ
 beyond w = drop w.len w.memory.now
 
+-- both stand in the same memory of the caller
+abbrev pub SameLender : Writer → Writer → Type 0
+SameLender w w' = w'.memory.ghost_name ≡ w.memory.ghost_name
+
 -- bs is written at the end, and nothing beyond it
 pub record Appends (w : Writer) (bs : List ℕ) (w' : Writer) : Type 0 where
   pub listed : listed w' ≡ listed w ++ bs

@@ -1,7 +1,7 @@
 -- The steps in which a line is written, and the room that they take.
 use Rattle.std.specs.Prelude.{◌≡◌, ℕ, ◌+◌, ◌<◌, List, [], ◌∷◌, map, length, Option, MatchOption}
 use Rattle.runsheet.specs.Texts.{number, shown}
-use Rattle.writer.specs.Listings.{beyond, Appends}
+use Rattle.writer.specs.Listings.{beyond, SameLender, Appends}
 use Rattle.writer.specs.declared.writer.Writer.{Writer}
 
 -- numbers as words
@@ -20,5 +20,5 @@ Leaves room taken r = MatchOption r (room < taken) (λ left. left + taken ≡ ro
 -- a step writes bs, in the same memory
 pub record Puts (w : Writer) (bs : List ℕ) (w' : Writer) : Type 0 where
   pub appends : Appends w bs w'
-  pub lender : w'.memory.ghost_name ≡ w.memory.ghost_name
+  pub lender : SameLender w w'
   pub room : length (beyond w) ≡ length bs + length (beyond w')

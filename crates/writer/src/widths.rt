@@ -11,7 +11,7 @@ pub(crate) fn digits(n: u32) -> usize
     ensures exact { result ≡ length (decimal n) }
     ensures few { result ≤ 10 }
 {
-    if n < 10 { 1 } else { digits(n / 10) + 1 }
+    n.checked_ilog10().unwrap_or(0) as usize + 1
 }
 
 // A mean in tenths is written with its point.
@@ -19,10 +19,7 @@ pub(crate) fn mean_width(mean: Option<u32>) -> usize
     ensures exact { result ≡ length (mean_word mean) }
     ensures few { result ≤ 12 }
 {
-    match mean {
-        None => 1,
-        Some(tenths) => digits(tenths / 10) + 2,
-    }
+    mean.map_or(1, |tenths| digits(tenths / 10) + 2)
 }
 
 pub(crate) fn layer_word(layer: Layer) -> &'static [u8]

@@ -1,5 +1,7 @@
 // Complete packets are collected.
 ghost use Rattle.std.specs.Prelude.{◌≡◌, ◌*◌, ◌<◌, Ok};
+ghost use Rattle.calls.specs.Networks.{fabric_of, SameParts};
+ghost use Rattle.writer.specs.Listings.{SameLender};
 ghost use Rattle.runner.specs.Progress.{Going, Tried, Collected};
 
 use super::Session;
@@ -19,11 +21,11 @@ impl<L: Layout, S: Switch> Session<L, S> {
         ticket: usize,
         writer: &mut Writer,
     ) -> Result<(), Refusal>
-        requires going { Going (record { plan = L.plan self.old.network.layout; turn = S.turn self.old.network.switch }) self.old writer.old }
+        requires going { Going (fabric_of L.plan S.turn self.old.network) self.old writer.old }
         requires numbers { (cycle < 65536) × (ticket < self.old.nodes * self.old.tickets) }
-        ensures tried { (result ≡ Ok tt) × (Tried (record { plan = L.plan self.old.network.layout; turn = S.turn self.old.network.switch }) cycle ticket self.old writer.old self.new writer.new) }
-        ensures parts { (self.new.network.layout ≡ self.old.network.layout) × (self.new.network.switch ≡ self.old.network.switch) }
-        ensures lender { writer.new.memory.ghost_name ≡ writer.old.memory.ghost_name }
+        ensures tried { (result ≡ Ok tt) × (Tried (fabric_of L.plan S.turn self.old.network) cycle ticket self.old writer.old self.new writer.new) }
+        ensures parts { SameParts self.old.network self.new.network }
+        ensures lender { SameLender writer.old writer.new }
     {
         let aim = self.aims[ticket];
         let Some(receiver) = aim else {
@@ -44,11 +46,11 @@ impl<L: Layout, S: Switch> Session<L, S> {
 
     // In rising order.
     pub(crate) fn collect_all(&mut self, cycle: u32, writer: &mut Writer) -> Result<(), Refusal>
-        requires going { Going (record { plan = L.plan self.old.network.layout; turn = S.turn self.old.network.switch }) self.old writer.old }
+        requires going { Going (fabric_of L.plan S.turn self.old.network) self.old writer.old }
         requires numbers { cycle < 65536 }
-        ensures collected { (result ≡ Ok tt) × (Collected (record { plan = L.plan self.old.network.layout; turn = S.turn self.old.network.switch }) cycle (self.old.nodes * self.old.tickets) self.old writer.old self.new writer.new) }
-        ensures parts { (self.new.network.layout ≡ self.old.network.layout) × (self.new.network.switch ≡ self.old.network.switch) }
-        ensures lender { writer.new.memory.ghost_name ≡ writer.old.memory.ghost_name }
+        ensures collected { (result ≡ Ok tt) × (Collected (fabric_of L.plan S.turn self.old.network) cycle (self.old.nodes * self.old.tickets) self.old writer.old self.new writer.new) }
+        ensures parts { SameParts self.old.network self.new.network }
+        ensures lender { SameLender writer.old writer.new }
     {
         for ticket in 0..self.nodes * self.tickets {
             self.collect(cycle, ticket, writer)?;

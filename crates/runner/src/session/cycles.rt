@@ -1,5 +1,7 @@
 // A cycle is carried out.
 ghost use Rattle.std.specs.Prelude.{◌≡◌, Ok};
+ghost use Rattle.calls.specs.Networks.{fabric_of, SameParts};
+ghost use Rattle.writer.specs.Listings.{SameLender};
 ghost use Rattle.runner.specs.Progress.{Early, Cycled};
 
 use super::Session;
@@ -25,10 +27,10 @@ const NO_EVENT: Event = Event {
 impl<L: Layout, S: Switch> Session<L, S> {
     // Each event has its line.
     pub(crate) fn cycle(&mut self, writer: &mut Writer) -> Result<(), Refusal>
-        requires { Early (record { plan = L.plan self.old.network.layout; turn = S.turn self.old.network.switch }) self.old writer.old }
-        ensures cycled { (result ≡ Ok tt) × (Cycled (record { plan = L.plan self.old.network.layout; turn = S.turn self.old.network.switch }) self.old writer.old self.new writer.new) }
-        ensures parts { (self.new.network.layout ≡ self.old.network.layout) × (self.new.network.switch ≡ self.old.network.switch) }
-        ensures lender { writer.new.memory.ghost_name ≡ writer.old.memory.ghost_name }
+        requires { Early (fabric_of L.plan S.turn self.old.network) self.old writer.old }
+        ensures cycled { (result ≡ Ok tt) × (Cycled (fabric_of L.plan S.turn self.old.network) self.old writer.old self.new writer.new) }
+        ensures parts { SameParts self.old.network self.new.network }
+        ensures lender { SameLender writer.old writer.new }
     {
         let mut events = [NO_EVENT; EVENTS];
         let mut line = Line::new(&mut events);

@@ -1,12 +1,13 @@
 // The packets that are due are offered.
-ghost use Rattle.std.specs.Prelude.{◌≡◌, ◌+◌, Ok, MatchResult};
-ghost use Rattle.line.specs.Lines.{holds};
-ghost use Rattle.runner.specs.Progress.{Going, Sendable, Offered, to_come, Ready, Due, Left};
+ghost use Rattle.std.specs.Prelude.{◌≡◌, ◌+◌, Ok};
+ghost use Rattle.calls.specs.Networks.{fabric_of, SameParts};
+ghost use Rattle.writer.specs.Listings.{SameLender};
+ghost use Rattle.runner.specs.Progress.{Going, Sendable, Offered, coming, Ready, Due, Left, SamePlaces};
 
 use super::Session;
+use crate::planned::Planned;
 use fabric::layout::Layout;
 use fabric::refusal::Refusal;
-use line::Line;
 use runsheet::parts::Packet;
 use switch::switch::Switch;
 use writer::Writer;
@@ -14,10 +15,10 @@ use writer::Writer;
 impl<L: Layout, S: Switch> Session<L, S> {
     // Of an accepted packet its destination is kept, until it is collected there. A refused one has its line.
     pub(crate) fn offer(&mut self, packet: Packet, writer: &mut Writer) -> Result<(), Refusal>
-        requires { (Going (record { plan = L.plan self.old.network.layout; turn = S.turn self.old.network.switch }) self.old writer.old) × (Sendable packet) }
-        ensures offered { (result ≡ Ok tt) × (Offered (record { plan = L.plan self.old.network.layout; turn = S.turn self.old.network.switch }) packet self.old writer.old self.new writer.new) }
-        ensures parts { (self.new.network.layout ≡ self.old.network.layout) × (self.new.network.switch ≡ self.old.network.switch) }
-        ensures lender { writer.new.memory.ghost_name ≡ writer.old.memory.ghost_name }
+        requires { (Going (fabric_of L.plan S.turn self.old.network) self.old writer.old) × (Sendable packet) }
+        ensures offered { (result ≡ Ok tt) × (Offered (fabric_of L.plan S.turn self.old.network) packet self.old writer.old self.new writer.new) }
+        ensures parts { SameParts self.old.network self.new.network }
+        ensures lender { SameLender writer.old writer.new }
     {
         let node = packet.node as usize;
         let own = packet.own as usize;
@@ -38,27 +39,22 @@ impl<L: Layout, S: Switch> Session<L, S> {
         }
     }
 
-    // Offers the packets that are due, of which `next` is the first. Answers the next that is not due yet.
+    // Offers the packets that are due.
     pub(crate) fn offer_due(
         &mut self,
         cycle: u32,
-        next: Option<Packet>,
-        planned: &mut Line<Packet>,
+        planned: &mut Planned,
         writer: &mut Writer,
-    ) -> Result<Option<Packet>, Refusal>
-        requires { Ready (record { plan = L.plan self.old.network.layout; turn = S.turn self.old.network.switch }) cycle (to_come next (holds planned.old)) self.old writer.old }
-        ensures offered { MatchResult result (λ n. Due (record { plan = L.plan self.old.network.layout; turn = S.turn self.old.network.switch }) cycle (to_come next (holds planned.old)) (to_come n (holds planned.new)) self.old writer.old self.new writer.new × Left (cycle + 1) (to_come n (holds planned.new))) (λ _. ⊥) }
-        ensures parts { (self.new.network.layout ≡ self.old.network.layout) × (self.new.network.switch ≡ self.old.network.switch) }
-        ensures lender { (writer.new.memory.ghost_name ≡ writer.old.memory.ghost_name) × (planned.new.memory.ghost_name ≡ planned.old.memory.ghost_name) }
+    ) -> Result<(), Refusal>
+        requires { Ready (fabric_of L.plan S.turn self.old.network) cycle (coming planned.old) self.old writer.old }
+        ensures offered { (result ≡ Ok tt) × (Due (fabric_of L.plan S.turn self.old.network) cycle (coming planned.old) (coming planned.new) self.old writer.old self.new writer.new) }
+        ensures left { Left (cycle + 1) (coming planned.new) }
+        ensures parts { SameParts self.old.network self.new.network }
+        ensures lender { (SameLender writer.old writer.new) × (SamePlaces planned.old planned.new) }
     {
-        let mut next = next;
-        while let Some(packet) = next {
-            if packet.cycle != cycle {
-                break;
-            }
+        while let Some(packet) = planned.next_due(cycle) {
             self.offer(packet, writer)?;
-            next = planned.take();
         }
-        Ok(next)
+        Ok(())
     }
 }

@@ -1,13 +1,13 @@
 // Cycle after cycle.
-ghost use Rattle.std.specs.Prelude.{◌≡◌, ◌+◌, ◌<◌, Ok, MatchResult};
-ghost use Rattle.line.specs.Lines.{holds};
-ghost use Rattle.runner.specs.Progress.{to_come, Ready, Left, Turned, Begun, Played};
+ghost use Rattle.std.specs.Prelude.{◌≡◌, ◌+◌, ◌<◌, Ok};
+ghost use Rattle.calls.specs.Networks.{fabric_of, SameParts};
+ghost use Rattle.writer.specs.Listings.{SameLender};
+ghost use Rattle.runner.specs.Progress.{coming, Ready, Left, Turned, Begun, Played, SamePlaces};
 
 use super::Session;
+use crate::planned::Planned;
 use fabric::layout::Layout;
 use fabric::refusal::Refusal;
-use line::Line;
-use runsheet::parts::Packet;
 use switch::switch::Switch;
 use writer::Writer;
 
@@ -16,36 +16,34 @@ impl<L: Layout, S: Switch> Session<L, S> {
     pub(crate) fn turn(
         &mut self,
         cycle: u32,
-        next: Option<Packet>,
-        planned: &mut Line<Packet>,
+        planned: &mut Planned,
         writer: &mut Writer,
-    ) -> Result<Option<Packet>, Refusal>
-        requires ready { Ready (record { plan = L.plan self.old.network.layout; turn = S.turn self.old.network.switch }) cycle (to_come next (holds planned.old)) self.old writer.old }
+    ) -> Result<(), Refusal>
+        requires ready { Ready (fabric_of L.plan S.turn self.old.network) cycle (coming planned.old) self.old writer.old }
         requires early { cycle < 65535 }
-        ensures turned { MatchResult result (λ n. Turned (record { plan = L.plan self.old.network.layout; turn = S.turn self.old.network.switch }) cycle (to_come next (holds planned.old)) (to_come n (holds planned.new)) self.old writer.old self.new writer.new × Left (cycle + 1) (to_come n (holds planned.new))) (λ _. ⊥) }
-        ensures parts { (self.new.network.layout ≡ self.old.network.layout) × (self.new.network.switch ≡ self.old.network.switch) }
-        ensures lender { (writer.new.memory.ghost_name ≡ writer.old.memory.ghost_name) × (planned.new.memory.ghost_name ≡ planned.old.memory.ghost_name) }
+        ensures turned { (result ≡ Ok tt) × (Turned (fabric_of L.plan S.turn self.old.network) cycle (coming planned.old) (coming planned.new) self.old writer.old self.new writer.new) }
+        ensures left { Left (cycle + 1) (coming planned.new) }
+        ensures parts { SameParts self.old.network self.new.network }
+        ensures lender { (SameLender writer.old writer.new) × (SamePlaces planned.old planned.new) }
     {
-        let next = self.offer_due(cycle, next, planned, writer)?;
+        self.offer_due(cycle, planned, writer)?;
         self.cycle(writer)?;
-        self.collect_all(cycle, writer)?;
-        Ok(next)
+        self.collect_all(cycle, writer)
     }
 
     // The whole run, and its last line.
     pub(crate) fn play(
         &mut self,
         cycles: u32,
-        planned: &mut Line<Packet>,
+        planned: &mut Planned,
         writer: &mut Writer,
     ) -> Result<(), Refusal>
-        requires { Begun (record { plan = L.plan self.old.network.layout; turn = S.turn self.old.network.switch }) cycles (holds planned.old) self.old writer.old }
-        ensures played { (result ≡ Ok tt) × (Played (record { plan = L.plan self.old.network.layout; turn = S.turn self.old.network.switch }) cycles (holds planned.old) self.old writer.old writer.new) }
-        ensures lender { (writer.new.memory.ghost_name ≡ writer.old.memory.ghost_name) × (planned.new.memory.ghost_name ≡ planned.old.memory.ghost_name) }
+        requires { Begun (fabric_of L.plan S.turn self.old.network) cycles (coming planned.old) self.old writer.old }
+        ensures played { (result ≡ Ok tt) × (Played (fabric_of L.plan S.turn self.old.network) cycles (coming planned.old) self.old writer.old writer.new) }
+        ensures lender { (SameLender writer.old writer.new) × (SamePlaces planned.old planned.new) }
     {
-        let mut next = planned.take();
         for cycle in 0..cycles {
-            next = self.turn(cycle, next, planned, writer)?;
+            self.turn(cycle, planned, writer)?;
         }
         let tally = self.tally;
         writer.end(tally.entered, tally.off, tally.mean())

@@ -1,6 +1,7 @@
 // The events of a cycle, counted and written.
 ghost use Rattle.std.specs.Prelude.{◌≡◌, ◌+◌, ◌-◌, ◌*◌, ◌≤◌, [], ◌∷◌, Ok};
 ghost use Rattle.line.specs.Lines.{holds};
+ghost use Rattle.writer.specs.Listings.{SameLender};
 ghost use Rattle.runner.specs.Listing.{kind_word, enters, leaves, mean_of};
 ghost use Rattle.runner.specs.Tallies.{Counts, Tellable, Told};
 
@@ -37,7 +38,7 @@ impl Tally {
     fn event(&mut self, event: Event, writer: &mut Writer) -> Result<(), Refusal>
         requires tellable { Tellable self.old writer.old (event ∷ []) }
         ensures told { (result ≡ Ok tt) × (Told self.old writer.old (event ∷ []) self.new writer.new) }
-        ensures lender { writer.new.memory.ghost_name ≡ writer.old.memory.ghost_name }
+        ensures lender { SameLender writer.old writer.new }
     {
         self.count(event);
         writer.event(
@@ -57,7 +58,7 @@ impl Tally {
     ) -> Result<(), Refusal>
         requires { Tellable self.old writer.old (holds line.old) }
         ensures told { (result ≡ Ok tt) × (Told self.old writer.old (holds line.old) self.new writer.new) }
-        ensures lender { (writer.new.memory.ghost_name ≡ writer.old.memory.ghost_name) × (line.new.memory.ghost_name ≡ line.old.memory.ghost_name) }
+        ensures lender { (SameLender writer.old writer.new) × (line.new.memory.ghost_name ≡ line.old.memory.ghost_name) }
     {
         while let Some(event) = line.take() {
             self.event(event, writer)?;
@@ -70,10 +71,6 @@ impl Tally {
         requires { self.now.waited ≤ 100000000 }
         ensures { result ≡ mean_of self.now.waited self.now.off }
     {
-        if self.off == 0 {
-            None
-        } else {
-            Some(10 * self.waited / self.off)
-        }
+        (10 * self.waited).checked_div(self.off)
     }
 }

@@ -1,6 +1,6 @@
-use Rattle.std.proofs.Common.{refl, rules}
+use Rattle.std.proofs.Common.{rules}
 use Rattle.worked.proofs.Cut.{right}
 use Rattle.worked.proofs.rows.Goals as goal
 
-pub returns : goal.returns
-returns c = record { right = (right, search rules); count = refl }
+pub returns-clause-right : goal.returns-clause-right
+returns-clause-right c = (right, search rules)

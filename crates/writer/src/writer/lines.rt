@@ -3,7 +3,7 @@ ghost use Rattle.std.specs.Prelude.{◌≡◌, ◌+◌, ◌≤◌, [], ◌∷◌
 ghost use Rattle.fabric.specs.Refusals.{shown};
 ghost use Rattle.runsheet.specs.Faults.{told};
 ghost use Rattle.runsheet.specs.Texts.{written};
-ghost use Rattle.writer.specs.Listings.{listed, beyond, LineOut, stamped_line, event_line, no_line, done_line, mean_word, end_line, fault_fields};
+ghost use Rattle.writer.specs.Listings.{listed, beyond, SameLender, LineOut, stamped_line, event_line, no_line, done_line, mean_word, end_line, fault_fields};
 ghost use Rattle.writer.specs.Steps.{Puts};
 
 use super::Writer;
@@ -35,7 +35,7 @@ impl<'a> Writer<'a> {
         node: u32,
     ) -> Result<(), Refusal>
         ensures line { LineOut self.old (event_line cycle kind.now ticket flit node) self.new (shown result) }
-        ensures lender { self.new.memory.ghost_name ≡ self.old.memory.ghost_name }
+        ensures lender { SameLender self.old self.new }
     {
         self.stamped(cycle, kind, ticket, &[flit, node])
     }
@@ -43,7 +43,7 @@ impl<'a> Writer<'a> {
     // A packet is refused.
     pub fn no(&mut self, cycle: u32, refusal: u32, node: u32, own: u32) -> Result<(), Refusal>
         ensures line { LineOut self.old (no_line cycle refusal node own) self.new (shown result) }
-        ensures lender { self.new.memory.ghost_name ≡ self.old.memory.ghost_name }
+        ensures lender { SameLender self.old self.new }
     {
         self.stamped(cycle, b"no", refusal, &[node, own])
     }
@@ -51,7 +51,7 @@ impl<'a> Writer<'a> {
     // A packet is collected.
     pub fn done(&mut self, cycle: u32, ticket: u32, words: &[u32]) -> Result<(), Refusal>
         ensures line { LineOut self.old (done_line cycle ticket words.now) self.new (shown result) }
-        ensures lender { self.new.memory.ghost_name ≡ self.old.memory.ghost_name }
+        ensures lender { SameLender self.old self.new }
     {
         self.stamped(cycle, b"done", ticket, words)
     }
@@ -59,7 +59,7 @@ impl<'a> Writer<'a> {
     // A line of a cycle: its number, a word and one number or more.
     fn stamped(&mut self, cycle: u32, kind: &[u8], first: u32, more: &[u32]) -> Result<(), Refusal>
         ensures line { LineOut self.old (stamped_line cycle kind.now (first ∷ more.now)) self.new (shown result) }
-        ensures lender { self.new.memory.ghost_name ≡ self.old.memory.ghost_name }
+        ensures lender { SameLender self.old self.new }
     {
         if after_stamped(self.room(), cycle, kind, first, more).is_none() {
             return Err(Refusal::Memory);
@@ -75,7 +75,7 @@ impl<'a> Writer<'a> {
     // The last line: flits entered, flits taken off, and their mean in tenths.
     pub fn end(&mut self, entered: u32, off: u32, mean: Option<u32>) -> Result<(), Refusal>
         ensures line { LineOut self.old (end_line entered off mean) self.new (shown result) }
-        ensures lender { self.new.memory.ghost_name ≡ self.old.memory.ghost_name }
+        ensures lender { SameLender self.old self.new }
     {
         // the bytes of `end`, three spaces and the line's end
         if self.room() < 7 + digits(entered) + digits(off) + mean_width(mean) {
@@ -107,7 +107,7 @@ impl<'a> Writer<'a> {
     // A fault is the whole listing.
     pub fn fault(&mut self, fault: Fault) -> Result<(), Refusal>
         ensures line { LineOut self.old (fault_fields (told fault)) self.new (shown result) }
-        ensures lender { self.new.memory.ghost_name ≡ self.old.memory.ghost_name }
+        ensures lender { SameLender self.old self.new }
         ensures few { length (written (fault_fields (told fault))) ≤ 36 }
     {
         let layer = layer_word(fault.layer);

@@ -18,17 +18,16 @@ impl<'a> Writer<'a> {
         requires { 1 ≤ length (beyond self.old) }
         ensures { Puts self.old (b ∷ []) self.new }
     {
-        self.memory[self.len] = b;
-        self.len += 1;
+        self.bytes(&[b]);
     }
 
     pub(super) fn bytes(&mut self, s: &[u8])
         requires { length s.now ≤ length (beyond self.old) }
         ensures { Puts self.old s.now self.new }
     {
-        for b in s {
-            self.byte(*b);
-        }
+        let end = self.len + s.len();
+        self.memory[self.len..end].copy_from_slice(s);
+        self.len = end;
     }
 
     // A word after a space.

@@ -1,8 +1,8 @@
-use Rattle.std.proofs.Common.{◌≡◌, ℕ, [], ◌∷◌, refl, ◌∙◌, subst, subst₂, arith}
+use Rattle.std.proofs.Common.{[], ◌∷◌, refl, ◌∙◌, subst, subst₂, arith}
 use Rattle.fabric.specs.Refusals.{shown}
 use Rattle.bounds.specs.declared.settings.Settings.{Settings}
 use Rattle.line.specs.Lines.{queue_of}
-use Rattle.network.specs.Cycle.{Fabric}
+use Rattle.calls.specs.Networks.{fabric_of}
 use Rattle.network.specs.Runs.Call.{cycle}
 use Rattle.network.specs.Runs.Outcome.{cycling}
 use Rattle.network.specs.Promises.{Kept}
@@ -14,9 +14,8 @@ use Rattle.uses.proofs.cycles.run_on.Goals as goal
 pub loop-init : goal.loop-init
 loop-init g c =
     let n = c.args.network.now in
-    let F : Fabric = record { plan = g.L.Layout.plan n.layout; turn = g.S.Switch.turn n.switch } in (
-      refl,
-      refl,
+    let F = fabric_of g.L.Layout.plan g.S.Switch.turn n in (
+      (refl, refl),
       λ run s f. record {
         lines = [];
         count = refl;
@@ -30,17 +29,16 @@ loop-init g c =
 pub loop-preserved : goal.loop-preserved
 loop-preserved g c =
     let n = c.args.network.now in
-    let F : Fabric = record { plan = g.L.Layout.plan n.layout; turn = g.S.Switch.turn n.switch } in
+    let F = fabric_of g.L.Layout.plan g.S.Switch.turn n in
     let i = c.loop.invariant in
     let e = c.cycle.ensures in
     let q = queue_of c.loop.line in
     let promise = subst₂ (λ (x : g.row.L.Denot) (y : g.row.S.Denot).
     Promised (record { plan = g.L.Layout.plan x; turn = g.S.Switch.turn y }) c.loop.network.inner c.cycle.new.self.inner (cycle q)
-    (cycling (shown c.cycle.result) (queue_of c.cycle.new.line))) i.0 i.1 e.promised in (
-      e.parts.0 ∙ i.0,
-      e.parts.1 ∙ i.1,
+    (cycling (shown c.cycle.result) (queue_of c.cycle.new.line))) i.0.0 i.0.1 e.promised in (
+      (e.parts.0 ∙ i.0.0, e.parts.1 ∙ i.0.1),
       λ run s f.
-          let h : RanOn F n.inner c.loop.network.inner c.loop.counter run = i.2 run s f in
+          let h : RanOn F n.inner c.loop.network.inner c.loop.counter run = i.1 run s f in
           let more = promise.continues (cycles_after run h.lines) h.state h.follows in
           let same = more.same ∙ h.same in
           record {
@@ -52,11 +50,3 @@ loop-preserved g c =
             kept = subst (λ (P : Settings). Kept F P (cycle q ∷ cycles_after run h.lines) more.state) same more.kept;
           },
     )
-
-pub returns : goal.returns
-returns g c =
-    let n = c.args.network.now in
-    let F : Fabric = record { plan = g.L.Layout.plan n.layout; turn = g.S.Switch.turn n.switch } in
-    let i = c.loop.invariant in
-    let all : c.loop.counter ≡ c.args.cycles = omega arith in
-    record { ran = λ run s f. subst (λ (k : ℕ). RanOn F n.inner c.loop.network.inner k run) all (i.2 run s f); parts = (i.0, i.1) }

@@ -1,5 +1,4 @@
-use Rattle.std.proofs.Common.{◌+◌, sym, ap, subst, lt_of_not-le, arith}
-use Rattle.std.proofs.lemmas.List.{take_all}
+use Rattle.std.proofs.Common.{◌+◌, sym, subst, lt_of_not-le, arith}
 use Rattle.writer.specs.Steps.{figures, spread, Leaves}
 use Rattle.writer.proofs.Written.{spread_more, spread_take}
 use Rattle.writer.proofs.widths.after_numbers.Goals as goal
@@ -14,6 +13,3 @@ returns-in_err-left c =
 pub loop-n-preserved : goal.loop-n-preserved
 loop-n-preserved c =
     omega (arith, c.loop-n.invariant, c.digits.ensures.exact, c.in_ok-left.ensures, spread_more c.args.numbers.now c.loop-n.n-index c.loop-n-test.true)
-
-pub returns : goal.returns
-returns c = omega (arith, c.loop-n.invariant, ap (λ ns. spread (figures ns)) (take_all c.loop-n.n-index c.args.numbers.now c.loop-n-test.false))

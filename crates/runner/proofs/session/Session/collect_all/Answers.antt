@@ -1,5 +1,7 @@
 use Rattle.std.proofs.Common.{◌≡◌, ℕ, ◌*◌, ◌<◌, sym, refl, ◌∙◌, subst, subst₂, arith}
 use Rattle.network.specs.Cycle.{Fabric}
+use Rattle.calls.specs.Networks.{fabric_of}
+use Rattle.runner.proofs.Fabrics.{same_fabric, then_same}
 use Rattle.runner.specs.Progress.{Going, Tried, CollectedFrom}
 use Rattle.runner.proofs.Turning.{collected_none, collected_more}
 use Rattle.runner.proofs.session.Session.collect_all.Goals as goal
@@ -7,8 +9,8 @@ use Rattle.runner.proofs.session.Session.collect_all.Goals as goal
 pub loop-ticket-init : goal.loop-ticket-init
 loop-ticket-init g c =
     let n = c.args.self.now.network in
-    let F : Fabric = record { plan = g.L.Layout.plan n.layout; turn = g.S.Switch.turn n.switch } in
-    (λ P M s ls es o st. collected_none F P c.args.cycle st, record { layout = refl; switch = refl }, refl)
+    let F = fabric_of g.L.Layout.plan g.S.Switch.turn n in
+    (λ P M s ls es o st. collected_none F P c.args.cycle st, (refl, refl), refl)
 
 pub collect-requires : goal.collect-requires
 collect-requires g c =
@@ -18,7 +20,7 @@ collect-requires g c =
     let k = i.0 x.settings x.memory x.state x.lines x.events x.packets x.stands in
     record {
       going =
-          subst₂ (λ (a : g.row.L.Denot) (b : g.row.S.Denot). Going (record { plan = g.L.Layout.plan a; turn = g.S.Switch.turn b }) l.self l.writer) (sym i.1.layout) (sym i.1.switch)
+          subst (λ (F : Fabric). Going F l.self l.writer) (sym (same_fabric g.L.Layout.plan g.S.Switch.turn i.1))
           (record { settings = x.settings; memory = x.memory; state = k.state; lines = _; events = x.events; packets = x.packets; stands = k.stands });
       numbers = (
         c.requires.numbers,
@@ -29,31 +31,24 @@ collect-requires g c =
 pub loop-ticket-preserved : goal.loop-ticket-preserved
 loop-ticket-preserved g c =
     let n = c.args.self.now.network in
-    let F : Fabric = record { plan = g.L.Layout.plan n.layout; turn = g.S.Switch.turn n.switch } in
+    let F = fabric_of g.L.Layout.plan g.S.Switch.turn n in
     let l = c.loop-ticket in
     let i = l.invariant in
     let e = c.in_ok-collect.ensures in
     let t =
-    subst₂ (λ (a : g.row.L.Denot) (b : g.row.S.Denot). Tried (record { plan = g.L.Layout.plan a; turn = g.S.Switch.turn b }) c.args.cycle l.ticket l.self l.writer c.collect.new.self c.collect.new.writer)
-    i.1.layout i.1.switch e.tried.1 in (
+    subst (λ (F : Fabric). Tried F c.args.cycle l.ticket l.self l.writer c.collect.new.self c.collect.new.writer)
+    (same_fabric g.L.Layout.plan g.S.Switch.turn i.1) e.tried.1 in (
       λ P M s ls es o st. collected_more F P c.args.cycle l.ticket (i.0 P M s ls es o st) t,
-      record { layout = e.parts.0 ∙ i.1.layout; switch = e.parts.1 ∙ i.1.switch },
+      then_same i.1 e.parts,
       e.lender ∙ i.2,
     )
 
-pub returns-in_err-collect : goal.returns-in_err-collect
-returns-in_err-collect g c = let e = c.in_err-collect.ensures.tried.0 in absurd (let z : ◌≡◌ {A = ℕ} 0 1 = cc in let n : ⊥ = omega arith in n)
-
-pub returns : goal.returns
-returns g c =
+pub returns-clause-collected : goal.returns-clause-collected
+returns-clause-collected g c =
     let n = c.args.self.now.network in
-    let F : Fabric = record { plan = g.L.Layout.plan n.layout; turn = g.S.Switch.turn n.switch } in
+    let F = fabric_of g.L.Layout.plan g.S.Switch.turn n in
     let l = c.loop-ticket in
     let i = l.invariant in
     let all : l.ticket ≡ c.args.self.now.nodes * c.args.self.now.tickets =
     let a = c.loop-ticket-test.false in let b = l.auto.ticket-end in omega arith in
-    record {
-      collected = (refl, λ P M s ls es o st. subst (λ (k : ℕ). CollectedFrom F P M c.args.cycle k l.self l.writer s ls es o) all (i.0 P M s ls es o st));
-      parts = (i.1.layout, i.1.switch);
-      lender = i.2;
-    }
+    (refl, λ P M s ls es o st. subst (λ (k : ℕ). CollectedFrom F P M c.args.cycle k l.self l.writer s ls es o) all (i.0 P M s ls es o st))

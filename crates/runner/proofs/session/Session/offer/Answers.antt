@@ -1,59 +1,41 @@
-use Rattle.std.proofs.Common.{ℕ, refl, ◌∙◌, subst, arith}
-use Rattle.network.specs.Cycle.{Fabric}
+use Rattle.std.proofs.Common.{ℕ, refl, ◌∙◌, subst}
+use Rattle.calls.specs.Networks.{fabric_of}
 use Rattle.writer.specs.Listings.{LineOut, no_line}
 use Rattle.fabric.specs.Refusals.{shown}
 use Rattle.runner.proofs.Sessions.{place_below, took, refuses, number_small}
 use Rattle.runner.proofs.session.Session.offer.Goals as goal
 
-pub offset_bounds-self-node : goal.offset_bounds-self-node
-offset_bounds-self-node g c =
-    let n = c.args.self.now.network in
-    let F : Fabric = record { plan = g.L.Layout.plan n.layout; turn = g.S.Switch.turn n.switch } in
-    let x = c.requires.0 in
-    let h = place_below F x.settings (g.met.L.Layout.lawful n.layout) x.stands c.args.packet c.in-Ok.ensures.promised in
-    omega (arith, h)
-
 pub bounds-self-node : goal.bounds-self-node
 bounds-self-node g c =
     let n = c.args.self.now.network in
-    let F : Fabric = record { plan = g.L.Layout.plan n.layout; turn = g.S.Switch.turn n.switch } in
+    let F = fabric_of g.L.Layout.plan g.S.Switch.turn n in
     let x = c.requires.0 in
     place_below F x.settings (g.met.L.Layout.lawful n.layout) x.stands c.args.packet c.in-Ok.ensures.promised
 
-pub returns-in-Ok : goal.returns-in-Ok
-returns-in-Ok g c =
+pub returns-in-Ok-clause-offered : goal.returns-in-Ok-clause-offered
+returns-in-Ok-clause-offered g c =
     let n = c.args.self.now.network in
-    let F : Fabric = record { plan = g.L.Layout.plan n.layout; turn = g.S.Switch.turn n.switch } in
-    let e = c.in-Ok.ensures in
-    record {
-      offered = (
-        refl,
-        λ P M s ls es o st h.
-            let z = took F P (g.met.L.Layout.lawful n.layout) st c.args.packet c.requires.1 e.promised h in
-            record { state = z.state; more = _; offers = z.offers; counted = z.counted; stands = record { at = z.at; nodes = st.nodes; tickets = st.tickets } },
-      );
-      parts = e.parts;
-      lender = refl;
-    }
+    let F = fabric_of g.L.Layout.plan g.S.Switch.turn n in
+    let e = c.in-Ok.ensures in (
+      refl,
+      λ P M s ls es o st h.
+          let z = took F P (g.met.L.Layout.lawful n.layout) st c.args.packet c.requires.1 e.promised h in
+          record { state = z.state; more = _; offers = z.offers; counted = z.counted; stands = record { at = z.at; nodes = st.nodes; tickets = st.tickets } },
+    )
 
-pub returns-in-Err : goal.returns-in-Err
-returns-in-Err g c =
+pub returns-in-Err-clause-offered : goal.returns-in-Err-clause-offered
+returns-in-Err-clause-offered g c =
     let n = c.args.self.now.network in
-    let F : Fabric = record { plan = g.L.Layout.plan n.layout; turn = g.S.Switch.turn n.switch } in
+    let F = fabric_of g.L.Layout.plan g.S.Switch.turn n in
     let law = g.met.L.Layout.lawful n.layout in
     let e = c.in-Err.ensures in
     let p = c.args.packet in
     let x = c.requires.0 in
     let k = c.from-number.ensures ∙ c.number.ensures in
     let small = number_small c.in-Err.refusal in
-    let out = subst (λ (m : ℕ). LineOut c.args.writer.now (no_line p.cycle m p.node p.own) c.no.new.self (shown c.no.result)) k c.no.ensures.line in
-    record {
-      offered = (
-        (refuses F x.settings law x.stands p _ _ c.no.result c.requires.1 small e.promised out).0,
-        λ P M s ls es o st h.
-            let z = (refuses F P law st p _ _ c.no.result c.requires.1 small e.promised out).1 h in
-            record { state = z.state; more = _; offers = z.offers; counted = z.counted; stands = record { at = z.at; nodes = st.nodes; tickets = st.tickets } },
-      );
-      parts = e.parts;
-      lender = c.no.ensures.lender;
-    }
+    let out = subst (λ (m : ℕ). LineOut c.args.writer.now (no_line p.cycle m p.node p.own) c.no.new.self (shown c.no.result)) k c.no.ensures.line in (
+      (refuses F x.settings law x.stands p _ _ c.no.result c.requires.1 small e.promised out).0,
+      λ P M s ls es o st h.
+          let z = (refuses F P law st p _ _ c.no.result c.requires.1 small e.promised out).1 h in
+          record { state = z.state; more = _; offers = z.offers; counted = z.counted; stands = record { at = z.at; nodes = st.nodes; tickets = st.tickets } },
+    )

@@ -1,15 +1,14 @@
-use Rattle.std.proofs.Common.{◌≡◌, length}
-use Rattle.line.specs.Lines.{holds}
-use Rattle.runner.specs.Progress.{to_come, Due, Left}
-use Rattle.runner.proofs.Sessions.{SameParts}
+use Rattle.std.proofs.Common.{length}
+use Rattle.calls.specs.Networks.{fabric_of, SameParts}
+use Rattle.writer.specs.Listings.{SameLender}
+use Rattle.runner.specs.Progress.{coming, Due, Left, SamePlaces}
 use Rattle.runner.proofs.session.Session.offer_due.Given as goal
 
-abbrev pub invariant-loop-next : goal.invariant-loop-next
-invariant-loop-next g l =
-    Due (record { plan = g.L.Layout.plan l.initial.self.network.layout; turn = g.S.Switch.turn l.initial.self.network.switch }) l.cycle
-    (to_come l.initial.next (holds l.initial.planned)) (to_come l.next (holds l.planned)) l.initial.self l.initial.writer l.self l.writer
-    × Left l.cycle (to_come l.next (holds l.planned))
-    × SameParts l.initial.self l.self × (l.writer.memory.ghost_name ≡ l.initial.writer.memory.ghost_name) × (l.planned.memory.ghost_name ≡ l.initial.planned.memory.ghost_name)
+abbrev pub invariant-loop-packet : goal.invariant-loop-packet
+invariant-loop-packet g l =
+    Due (fabric_of g.L.Layout.plan g.S.Switch.turn l.initial.self.network) l.cycle (coming l.initial.planned) (coming l.planned) l.initial.self l.initial.writer l.self l.writer
+    × Left l.cycle (coming l.planned)
+    × SameParts l.initial.self.network l.self.network × SameLender l.initial.writer l.writer × SamePlaces l.initial.planned l.planned
 
-abbrev pub decreases-loop-next : goal.decreases-loop-next
-decreases-loop-next g l = length (to_come l.next (holds l.planned))
+abbrev pub decreases-loop-packet : goal.decreases-loop-packet
+decreases-loop-packet g l = length (coming l.planned)

@@ -1,27 +1,23 @@
-use Rattle.std.proofs.Common.{◌≡◌, ℕ, List, length, Option, sym, refl, ap, ◌∙◌, subst, subst₂, arith}
+use Rattle.std.proofs.Common.{◌≡◌, ℕ, Option, sym, refl, ◌∙◌, subst, arith}
 use Rattle.fabric.specs.Refusals.{shown}
-use Rattle.line.specs.Lines.{holds}
 use Rattle.network.specs.Cycle.{Fabric}
-use Rattle.runsheet.specs.declared.parts.Packet.{Packet}
+use Rattle.calls.specs.Networks.{fabric_of}
+use Rattle.runner.proofs.Fabrics.{same_fabric, then_same}
 use Rattle.writer.specs.Listings.{LineOut, end_line}
 use Rattle.runner.specs.Listing.{Turns}
-use Rattle.runner.specs.Progress.{to_come, Ready, Left, Turned}
+use Rattle.runner.specs.Progress.{coming, Ready, Turned}
 use Rattle.runner.proofs.Sessions.{ends}
 use Rattle.runner.proofs.Steps.{tally_few}
-use Rattle.runner.proofs.Turning.{taken_next, through_none, through_more}
+use Rattle.runner.proofs.Turning.{through_none, through_more}
 use Rattle.runner.proofs.session.Session.play.Goals as goal
 
 pub loop-cycle-init : goal.loop-cycle-init
 loop-cycle-init g c =
     let n = c.args.self.now.network in
-    let F : Fabric = record { plan = g.L.Layout.plan n.layout; turn = g.S.Switch.turn n.switch } in
-    let t = c.take-next.ensures in
-    let coming = to_come c.take-next.result (holds c.take-next.new.self) in
-    let all : coming ≡ holds c.args.planned.now = taken_next c.take-next.result (holds c.args.planned.now) (holds c.take-next.new.self) t.contents in
-    let few = c.requires.few in (
-      λ P M st. through_none F P M coming st (let e = ap length all in omega (arith, e, few)),
-      subst (λ (q : List Packet). Left 0 q) (sym all) c.requires.left,
-      record { layout = refl; switch = refl },
+    let F = fabric_of g.L.Layout.plan g.S.Switch.turn n in (
+      λ P M st. through_none F P M (coming c.args.planned.now) st c.requires.few,
+      c.requires.left,
+      (refl, refl),
       refl,
       refl,
     )
@@ -34,8 +30,7 @@ turn-requires g c =
     let k = i.0 x.settings x.memory x.stands in
     record {
       ready =
-          subst₂ (λ (a : g.row.L.Denot) (b : g.row.S.Denot). Ready (record { plan = g.L.Layout.plan a; turn = g.S.Switch.turn b }) l.cycle (to_come l.next (holds l.planned)) l.self l.writer)
-          (sym i.2.layout) (sym i.2.switch)
+          subst (λ (F : Fabric). Ready F l.cycle (coming l.planned) l.self l.writer) (sym (same_fabric g.L.Layout.plan g.S.Switch.turn i.2))
           (record {
             going = record { settings = x.settings; memory = x.memory; state = k.state; lines = k.lines; events = k.events; packets = k.packets; stands = k.stands };
             now = k.now;
@@ -49,18 +44,15 @@ turn-requires g c =
 pub loop-cycle-preserved : goal.loop-cycle-preserved
 loop-cycle-preserved g c =
     let n = c.args.self.now.network in
-    let F : Fabric = record { plan = g.L.Layout.plan n.layout; turn = g.S.Switch.turn n.switch } in
+    let F = fabric_of g.L.Layout.plan g.S.Switch.turn n in
     let l = c.loop-cycle in
     let i = l.invariant in
-    let e = c.in_ok-next.ensures in
-    let coming = to_come l.next (holds l.planned) in
-    let later = to_come c.in_ok-next.next (holds c.turn.new.planned) in
+    let e = c.in_ok-turn.ensures in
     let turned =
-    subst₂ (λ (a : g.row.L.Denot) (b : g.row.S.Denot). Turned (record { plan = g.L.Layout.plan a; turn = g.S.Switch.turn b }) l.cycle coming later l.self l.writer c.turn.new.self c.turn.new.writer)
-    i.2.layout i.2.switch e.turned.0 in (
-      λ P M st. through_more F P M (to_come c.take-next.result (holds c.take-next.new.self)) l.cycle coming later (i.0 P M st) turned e.turned.1,
-      e.turned.1,
-      record { layout = e.parts.0 ∙ i.2.layout; switch = e.parts.1 ∙ i.2.switch },
+    subst (λ (F : Fabric). Turned F l.cycle (coming l.planned) (coming c.turn.new.planned) l.self l.writer c.turn.new.self c.turn.new.writer) (same_fabric g.L.Layout.plan g.S.Switch.turn i.2) e.turned.1 in (
+      λ P M st. through_more F P M (coming c.args.planned.now) l.cycle (coming l.planned) (coming c.turn.new.planned) (i.0 P M st) turned e.left,
+      e.left,
+      then_same i.2 e.parts,
       e.lender.0 ∙ i.3,
       e.lender.1 ∙ i.4,
     )
@@ -68,47 +60,40 @@ loop-cycle-preserved g c =
 pub mean-requires : goal.mean-requires
 mean-requires g c =
     let n = c.args.self.now.network in
-    let F : Fabric = record { plan = g.L.Layout.plan n.layout; turn = g.S.Switch.turn n.switch } in
+    let F = fabric_of g.L.Layout.plan g.S.Switch.turn n in
     let l = c.loop-cycle in
     let x = c.requires in
     let k = l.invariant.0 x.settings x.memory x.stands in
     (tally_few F x.settings (g.met.L.Layout.lawful n.layout) k.stands.at).waited
 
-pub returns : goal.returns
-returns g c =
+pub returns-clause-played : goal.returns-clause-played
+returns-clause-played g c =
     let n = c.args.self.now.network in
-    let F : Fabric = record { plan = g.L.Layout.plan n.layout; turn = g.S.Switch.turn n.switch } in
+    let F = fabric_of g.L.Layout.plan g.S.Switch.turn n in
     let law = g.met.L.Layout.lawful n.layout in
     let l = c.loop-cycle in
     let i = l.invariant in
     let x = c.requires in
     let t = l.self.tally in
-    let before = holds c.args.planned.now in
-    let all = taken_next c.take-next.result before (holds c.take-next.new.self) c.take-next.ensures.contents in
     let last : l.cycle ≡ c.args.cycles = let a = c.loop-cycle-test.false in let b = l.auto.cycle-end in omega arith in
     let out = subst (λ (m : Option ℕ). LineOut l.writer (end_line t.entered t.off m) c.end.new.self (shown c.end.result)) c.mean.ensures c.end.ensures.line in
-    let k = i.0 x.settings x.memory x.stands in
-    record {
-      played = (
-        (ends F x.settings law k.stands c.end.result out).0,
-        λ P M st.
-            let h = i.0 P M st in
-            let w = (ends F P law h.stands c.end.result out).1 in
-            record {
-              out = _;
-              lists = record {
-                later = to_come l.next (holds l.planned);
-                state = h.state;
-                lines = h.lines;
-                events = h.events;
-                turns =
-                    subst₂ (λ (ps : List Packet) (m : ℕ). Turns F P ps m (to_come l.next (holds l.planned)) h.state h.lines h.events) all last h.turns;
-                bytes = refl;
-              };
-              written = w.0.lines;
-              rest = w.0.rest;
-              short = w.1;
-            },
-      );
-      lender = (c.end.ensures.lender ∙ i.3, i.4 ∙ c.take-next.ensures.lender);
-    }
+    let k = i.0 x.settings x.memory x.stands in (
+      (ends F x.settings law k.stands c.end.result out).0,
+      λ P M st.
+          let h = i.0 P M st in
+          let w = (ends F P law h.stands c.end.result out).1 in
+          record {
+            out = _;
+            lists = record {
+              later = coming l.planned;
+              state = h.state;
+              lines = h.lines;
+              events = h.events;
+              turns = subst (λ (m : ℕ). Turns F P (coming c.args.planned.now) m (coming l.planned) h.state h.lines h.events) last h.turns;
+              bytes = refl;
+            };
+            written = w.0.lines;
+            rest = w.0.rest;
+            short = w.1;
+          },
+    )

@@ -1,17 +1,8 @@
 use Rattle.std.proofs.Common.{List, ◌∙◌, subst}
 use Rattle.network.specs.declared.event.Event.{Event}
 use Rattle.line.specs.Lines.{holds}
-use Rattle.runner.specs.Tallies.{Tellable}
-use Rattle.runner.proofs.Telling.{Telling, first, next}
+use Rattle.runner.proofs.Telling.{Telling, next}
 use Rattle.runner.proofs.tally.Tally.tell.Goals as goal
-
-pub event-requires : goal.event-requires
-event-requires c =
-    let l = c.loop-event in
-    record {
-      tellable = first c.in-Some.event (holds c.take.new.self)
-          (subst (λ (es : List Event). Tellable l.self l.writer es) c.in-Some.ensures.contents l.invariant.0.tellable);
-    }
 
 pub loop-event-preserved : goal.loop-event-preserved
 loop-event-preserved c =

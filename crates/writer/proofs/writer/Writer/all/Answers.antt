@@ -1,6 +1,4 @@
 use Rattle.std.proofs.Common.{◌+◌, ◌∷◌, get_or, take, decimal, subst, arith}
-use Rattle.std.specs.List.{flat_map}
-use Rattle.std.proofs.lemmas.List.{take_all}
 use Rattle.writer.specs.Steps.{Puts, figures}
 use Rattle.writer.proofs.Written.{puts_both, figures_step, length_joined, spread_more, spread_take}
 use Rattle.writer.proofs.writer.Writer.all.Goals as goal
@@ -17,7 +15,3 @@ loop-n-preserved c =
     let i = c.loop-n.n-index in
     subst (λ x. Puts c.args.self.now x c.next.new.self) (figures_step ns i c.loop-n-test.true)
     (puts_both c.args.self.now c.loop-n.self c.next.new.self _ (32 ∷ decimal (get_or ns i 0)) c.loop-n.invariant c.next.ensures)
-
-pub returns : goal.returns
-returns c =
-    subst (λ x. Puts c.args.self.now (flat_map (λ v. 32 ∷ v) (figures x)) c.loop-n.self) (take_all c.loop-n.n-index c.args.ns.now c.loop-n-test.false) c.loop-n.invariant

@@ -1,19 +1,19 @@
-use Rattle.std.proofs.Common.{◌∷◌, length, decimal, refl, ap, ◌∙◌, subst, arith}
+use Rattle.std.proofs.Common.{◌∷◌, length, decimal, ap, ◌∙◌, subst, arith}
 use Rattle.runsheet.specs.Faults.{told}
 use Rattle.writer.specs.Steps.{Puts}
 use Rattle.writer.specs.Listings.LineOut.{added, short}
 use Rattle.writer.proofs.Written.{lined_last, length_fault}
 use Rattle.writer.proofs.writer.Writer.fault.Goals as goal
 
-pub returns-then-room-layer : goal.returns-then-room-layer
-returns-then-room-layer c =
+pub returns-then-room-layer-clause-line : goal.returns-then-room-layer-clause-line
+returns-then-room-layer-clause-line c =
     let long = length_fault (told c.args.fault) in
     let layer = ap length c.layer_word-layer.ensures.exact in
     let digits = ap (λ n. length (decimal n)) (c.from-number.ensures ∙ c.number.ensures) in
-    record { line = short (omega (arith, c.if-room-layer.true, c.room.ensures)); lender = refl; few = omega arith }
+    short (omega (arith, c.if-room-layer.true, c.room.ensures))
 
-pub returns : goal.returns
-returns c =
+pub returns-clause-line : goal.returns-clause-line
+returns-clause-line c =
     let layer = c.layer_word-layer.ensures.exact in
     let number = c.from-number.ensures ∙ c.number.ensures in
     let word_told = subst (λ w. Puts c.bytes.new.self (32 ∷ w) c.word.new.self) layer c.word.ensures in
@@ -23,8 +23,4 @@ returns c =
     let long = length_fault (told c.args.fault) in
     let letters = ap length layer in
     let digits = ap (λ n. length (decimal n)) number in
-    record {
-      line = added (omega (arith, p.room)) p.appends;
-      lender = p.lender;
-      few = omega (arith, c.digits.ensures.exact, c.digits-2.ensures.exact, c.layer_word-layer.ensures.few);
-    }
+    added (omega (arith, p.room)) p.appends
