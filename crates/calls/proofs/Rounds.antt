@@ -126,7 +126,7 @@ module _ (F : Fabric) (i : Tables) where
                   cycles = a.cycles ∙ ap (λ x. x + 1) b.cycles;
                   drawn = a.register ∙ m.drawn ∙ ap (register P.seed) turns ∙ ap (λ (Q : Settings). register Q.seed ((s.cycles + 1) * N)) (sym e);
                   slots = λ x p h. ap (λ xs. slot_of xs x p) a.slots ∙ all_arrived law s arrived (λ y t l. m.sent y t l) x p h;
-                  records = subst₂ (λ (Q : Settings) (ts : List Ticket). Records (all_tickets F.plan Q) ts (done F P s N ++ s.log)) (sym a.settings) (sym a.tickets) b.records;
+                  records = subst₂ (λ (Q : Settings) (ts : List (Option Ticket)). Records (all_tickets F.plan Q) ts (done F P s N ++ s.log)) (sym a.settings) (sym a.tickets) b.records;
                   queued = subst₂ (λ (Q : Settings) (ws : List Waits). Queued N Q.tickets ws (done F P s N ++ s.log)) (sym a.settings) (sym a.waits) b.queued;
                 } in
                 record {

@@ -1,5 +1,5 @@
 -- How the tables of the code stand for a state, and what every call promises.
-use Rattle.std.specs.Prelude.{◌≡◌, ℕ, ◌+◌, ◌*◌, ◌<◌, ◌≤◌, Bool, true, false, not, List, [], ◌∷◌, ◌++◌, length, None, Option, slice_index, slice_index_or}
+use Rattle.std.specs.Prelude.{◌≡◌, ℕ, ◌+◌, ◌*◌, ◌<◌, ◌≤◌, Bool, true, false, not, List, [], ◌∷◌, ◌++◌, length, Some, None, Option, is_some, slice_index, slice_index_or}
 use Rattle.fabric.specs.declared.parts.Port.{Port}
 use Rattle.fabric.specs.declared.parts.Flit.{Flit}
 use Rattle.fabric.specs.Ports.{place_of}
@@ -17,23 +17,26 @@ use Rattle.network.specs.Promises.{Stands, OffOnce, Kept}
 use Rattle.calls.specs.declared.ticket.Ticket.{Ticket}
 use Rattle.calls.specs.declared.waits.Waits.{Waits}
 use Rattle.calls.specs.declared.tables.Tables.{Tables}
-use Rattle.calls.specs.Records.{no_ticket, no_waits, line_of}
+use Rattle.calls.specs.Records.{no_waits, line_of}
 
 abbrev pub slot_of : List (Option Flit) → ℕ → Port → Option Flit
 slot_of xs n p = slice_index_or xs (4 * n + place_of p) None
 
--- the record of a ticket shows what a log says of it
+-- the record of a ticket shows what a log says of its packet
 pub record Recorded (r : Ticket) (t : ℕ) (l : log.Log) : Type 0 where
-  pub opened : r.busy ≡ not (log.free t l)
   pub destination : r.destination ≡ log.aim (log.packet t l)
   pub size : r.size ≡ log.size (log.packet t l)
   pub sent : r.sent ≡ log.sent t l
   pub words : (k : ℕ) → k < 4 → slice_index r.words k ≡ log.word (log.packet t l) k
-  pub short : r.size ≤ 4
   pub received : (k : ℕ) → k < 4 → slice_index_or r.received k None ≡ log.received t k l
 
-abbrev pub Records : ℕ → List Ticket → log.Log → Type 0
-Records G ts l = (t : ℕ) → t < G → Recorded (slice_index_or ts t no_ticket) t l
+-- a ticket that is taken has its record, and a free one has none
+pub record Entry (o : Option Ticket) (t : ℕ) (l : log.Log) : Type 0 where
+  pub opened : is_some o ≡ not (log.free t l)
+  pub recorded : (r : Ticket) → o ≡ Some r → Recorded r t l
+
+abbrev pub Records : ℕ → List (Option Ticket) → log.Log → Type 0
+Records G ts l = (t : ℕ) → t < G → Entry (slice_index_or ts t None) t l
 
 -- the tickets that wait at a node
 pub record Lined (w : Waits) (ts : List ℕ) : Type 0 where
