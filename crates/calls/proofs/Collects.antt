@@ -1,10 +1,11 @@
 -- What a collection does.
-use Rattle.std.proofs.Common.{◌≡◌, ℕ, ◌<◌, ◌≤◌, Bool, true, false, cond, not, ◌&&◌, ◌||◌, eqb, ltb, leb, ◌⊎◌, List, [], ◌∷◌, ◌++◌, length, get_or, is_some, Some, None, Option, sym, refl, ap, ◌∙◌, subst, inl, inr, arith}
+use Rattle.std.proofs.Common.{◌≡◌, ℕ, ◌<◌, ◌≤◌, Bool, true, false, cond, not, ◌&&◌, ◌||◌, eqb, ltb, leb, ◌⊎◌, List, [], ◌∷◌, ◌++◌, length, get_or, map, is_some, Some, None, Option, sym, refl, ap, ◌∙◌, subst, inl, inr, arith}
 use lib.Arith.{digits_lt}
 use Rattle.std.proofs.lemmas.Bool.{le-leb, lt-leb, le-ltb, lt-ltb, eq-eqb, ne_eqb, or_left, or_right, or_from, cond-true, cond-false}
 use Rattle.fabric.specs.Layouts.{Lawful}
 use Rattle.fabric.specs.Verdicts.{Verdict}
 use Rattle.fabric.specs.Verdicts.Verdict.{granted, refused}
+use Rattle.batch.specs.Items.{items}
 use Rattle.bounds.specs.declared.settings.Settings.{Settings}
 use Rattle.bounds.specs.SetUp.{all_tickets}
 use Rattle.network.specs.Log.{Log, packet, size, aim, free, received, has, value, filled, complete, gathered}
@@ -16,8 +17,7 @@ use Rattle.network.specs.Runs.Outcome.{collecting}
 use Rattle.network.specs.Computed.{decided}
 use Rattle.calls.specs.declared.tables.Tables.{Tables}
 use Rattle.calls.specs.declared.ticket.Ticket.{Ticket}
-use Rattle.calls.specs.declared.waits.Waits.{Waits}
-use Rattle.calls.specs.Records.{all_in, values, arrived, Frees}
+use Rattle.calls.specs.Records.{all_in, values, arrived, lines, Frees}
 use Rattle.calls.specs.Follow.{Shows, Recorded, Entry, Records, Queued}
 use Rattle.calls.proofs.Promising.{Works}
 use Rattle.calls.proofs.Setting.{ticket_below}
@@ -153,7 +153,7 @@ module _ (F : Fabric) (i : Tables) (r n o : ℕ) (memory : List ℕ) where
               does = λ s led sh.
                   let e = verdict s sh in
                   let ws = gathered t (size (packet t s.log)) s.log in
-                  let queued : Queued F.plan.nodes P.tickets j.waits s.log = subst (λ (xs : List Waits). Queued F.plan.nodes P.tickets xs s.log) (sym f.waits) sh.queued in
+                  let queued : Queued F.plan.nodes P.tickets (lines j) s.log = subst (λ (xs : List (List ℕ)). Queued F.plan.nodes P.tickets xs s.log) (sym (ap (map items) f.waits)) sh.queued in
                   let shows : Shows F j (then s) = logged F i j s (collected t r ws) f.keeps sh (records s sh ws) queued in
                   record {
                     exact =

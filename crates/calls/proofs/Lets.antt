@@ -1,7 +1,7 @@
 -- A node lets a flit in: the tables then show the log with that.
-use Rattle.std.proofs.Common.{◌≡◌, ℕ, ◌+◌, ◌<◌, false, ◌⊎◌, List, [], ◌∷◌, ◌++◌, length, get_or, drop, set, Some, None, Option, sym, refl, ap, ◌∙◌, subst, subst₂, inl, inr, arith}
+use Rattle.std.proofs.Common.{◌≡◌, ℕ, ◌+◌, ◌<◌, false, ◌⊎◌, List, [], ◌∷◌, ◌++◌, get_or, map, drop, set, Some, None, Option, sym, refl, ap, ◌∙◌, subst, inl, inr, arith}
 use mathlib.Core.Path.{fun_ext}
-use Rattle.std.proofs.lemmas.List.{get_or-set_same, get_or-set_other, length-drop}
+use Rattle.std.proofs.lemmas.List.{get_or-set_same, get_or-set_other}
 use Rattle.std.proofs.lemmas.Bool.{cases_eq, eq-eqb, ne_eqb, cond-true, cond-false, and_left, and_right, and_from}
 use Rattle.fabric.specs.declared.parts.Port.{Port}
 use Rattle.fabric.specs.declared.parts.Flit.{Flit}
@@ -9,6 +9,7 @@ use Rattle.fabric.specs.Layouts.{Lawful}
 use Rattle.fabric.specs.Ports.{place_of}
 use Rattle.switch.specs.Switches.{at}
 use Rattle.line.specs.Queues.{Queue, put}
+use Rattle.batch.specs.Items.{items}
 use Rattle.bounds.specs.declared.settings.Settings.{Settings}
 use Rattle.bounds.specs.SetUp.{all_tickets}
 use Rattle.network.specs.declared.event.Event.{Event}
@@ -21,11 +22,10 @@ use Rattle.network.specs.Computed.{gap, placed, next_of, with_flit, left, enteri
 use Rattle.network.proofs.Invariant.{Inv, Opened, Each, Waits as Waiting}
 use Rattle.network.proofs.Places.{some_none, some_same}
 use Rattle.calls.specs.declared.ticket.Ticket.{Ticket}
-use Rattle.calls.specs.declared.waits.Waits.{Waits}
 use Rattle.calls.specs.declared.tables.Tables.{Tables}
-use Rattle.calls.specs.Records.{no_waits, line_of, Keeps, LetsGo, LetsIn}
+use Rattle.calls.specs.Records.{lines, line_at, Keeps, LetsGo, LetsIn}
 use Rattle.calls.specs.Telling.{event_of}
-use Rattle.calls.specs.Follow.{Recorded, Entry, Lined, Records, Queued}
+use Rattle.calls.specs.Follow.{Recorded, Entry, Records, Queued}
 use Rattle.calls.specs.Midway.{Reached, Between, Own, Let}
 use Rattle.calls.proofs.Showing.{like, change, entry_more, entered_in, get_or_some, invariant}
 use Rattle.calls.proofs.Takes.{at_ordered, set_ordered, between}
@@ -49,7 +49,7 @@ module _ (F : Fabric) (i : Tables) (s : State) (l : Log) (n : ℕ) (law : Lawful
   stay j q k ti wa e =
       record {
         shows = subst (λ (o : Option (Port × Flit)). Between F s (entered_at n o ++ l) j) (sym e)
-            (between F s l l i j k b (subst (λ (xs : List (Option Ticket)). Records (all_tickets F.plan P) xs l) (sym ti) b.records) (subst (λ (xs : List Waits). Queued F.plan.nodes T xs l) (sym wa) b.queued));
+            (between F s l l i j k b (subst (λ (xs : List (Option Ticket)). Records (all_tickets F.plan P) xs l) (sym ti) b.records) (subst (λ (xs : List (List ℕ)). Queued F.plan.nodes T xs l) (sym (ap (map items) wa)) b.queued));
         gives = pl ∙ ap (λ (o : Option (Port × Flit)). in_slot_order (with_flit o (left F P s n))) (sym e);
         line = ap (λ (o : Option (Port × Flit)). put_all q (told (entered_at n o))) (sym e);
       }
@@ -62,11 +62,8 @@ module _ (F : Fabric) (i : Tables) (s : State) (l : Log) (n : ℕ) (law : Lawful
       (ap (λ g. placed F P s g (next_of F P s (waiting T n s.log))) (sym same_gap ∙ e))
 
   module _ (p : Port) (g : gap (at places) ≡ Some p) (j : Tables) (o : Option Flit) (lets : LetsIn i j n o) where
-    lined : Lined (get_or i.waits n no_waits) (waiting T n l)
-    lined = b.queued n h
-
-    line_is : line_of (get_or i.waits n no_waits) ≡ waiting T n s.log
-    line_is = lined.line ∙ own.line
+    line_is : line_at i n ≡ waiting T n s.log
+    line_is = b.queued n h ∙ own.line
 
     enters_by : (xs : List ℕ) → waiting T n s.log ≡ xs → entering F P s n ≡ placed F P s (Some p) (next_of F P s xs)
     unfolding entering
@@ -143,37 +140,30 @@ module _ (F : Fabric) (i : Tables) (s : State) (l : Log) (n : ℕ) (law : Lawful
         in_all : goes.its.size ≡ size (packet t l)
         in_all = goes.sends.size ∙ recorded.size
 
-        queued : Queued F.plan.nodes T j.waits then
+        queued : Queued F.plan.nodes T (lines j) then
         queued m k = go (cases_eq goes.its.sent goes.its.size) (cases_eq m n)
           where
             elsewhere : (m ≡ n → ⊥) → waiting T m then ≡ waiting T m l
             elsewhere d = cond-false _ _ _ (and_left _ _ (ne_eqb n m (λ z. d (sym z))))
 
-            go : (goes.its.sent ≡ goes.its.size) ⊎ (goes.its.sent ≡ goes.its.size → ⊥) → (m ≡ n) ⊎ (m ≡ n → ⊥) → Lined (get_or j.waits m no_waits) (waiting T m then)
+            go : (goes.its.sent ≡ goes.its.size) ⊎ (goes.its.sent ≡ goes.its.size → ⊥) → (m ≡ n) ⊎ (m ≡ n → ⊥) → get_or (lines j) m [] ≡ waiting T m then
             go (inl a) (inl d) =
-                let lv = goes.leaves a lined.room in
-                let held = lv.0 in
-                let v : waiting T n then ≡ drop 1 (waiting T n l) =
-                cond-true _ _ _ (and_from _ _ (eq-eqb n n refl) (eq-eqb (sent t s.log + 1) (size (packet t l)) (sym last_one ∙ a ∙ in_all))) in
-                let w : get_or j.waits n no_waits ≡ goes.line a = ap (λ xs. get_or xs n no_waits) (goes.waits a) ∙ get_or-set_same i.waits n (goes.line a) no_waits goes.room in
-                let shorter = length-drop 1 (waiting T n l) in
-                let c = lined.count in
-                let full = lined.room in
-                let y : Lined (goes.line a) (drop 1 (waiting T n l)) = record {
-                  room = omega arith;
-                  count = let z : (goes.line a).held ≡ length (drop 1 (waiting T n l)) = omega arith in z;
-                  line = lv.1 ∙ ap (drop 1) lined.line;
-                } in
-                subst (λ (x : ℕ). Lined (get_or j.waits x no_waits) (waiting T x then)) (sym d)
-                (subst₂ (λ (x : Waits) (xs : List ℕ). Lined x xs) (sym w) (sym v) y)
+                ap (λ xs. get_or xs m []) (goes.leaves a)
+                ∙ ap (λ x. get_or (set (lines i) n (drop 1 (line_at i n))) x []) d
+                ∙ get_or-set_same (lines i) n (drop 1 (line_at i n)) [] goes.room
+                ∙ ap (drop 1) (b.queued n h)
+                ∙ sym (cond-true _ _ _ (and_from _ _ (eq-eqb n n refl) (eq-eqb (sent t s.log + 1) (size (packet t l)) (sym last_one ∙ a ∙ in_all))))
+                ∙ ap (λ x. waiting T x then) (sym d)
             go (inl a) (inr d) =
-                let w : get_or j.waits m no_waits ≡ get_or i.waits m no_waits = ap (λ xs. get_or xs m no_waits) (goes.waits a) ∙ get_or-set_other i.waits n m (goes.line a) no_waits d in
-                subst₂ (λ (x : Waits) (xs : List ℕ). Lined x xs) (sym w) (sym (elsewhere d)) (b.queued m k)
+                ap (λ xs. get_or xs m []) (goes.leaves a)
+                ∙ get_or-set_other (lines i) n m (drop 1 (line_at i n)) [] d
+                ∙ b.queued m k
+                ∙ sym (elsewhere d)
             go (inr a) (inl d) =
-                let v : waiting T m then ≡ waiting T m l =
-                cond-false _ _ _ (and_right _ _ (ne_eqb (sent t s.log + 1) (size (packet t l)) (λ z. a (last_one ∙ z ∙ sym in_all)))) in
-                subst₂ (λ (x : List Waits) (xs : List ℕ). Lined (get_or x m no_waits) xs) (sym (goes.stays a)) (sym v) (b.queued m k)
-            go (inr a) (inr d) = subst₂ (λ (x : List Waits) (xs : List ℕ). Lined (get_or x m no_waits) xs) (sym (goes.stays a)) (sym (elsewhere d)) (b.queued m k)
+                ap (λ xs. get_or (map items xs) m []) (goes.stays a)
+                ∙ b.queued m k
+                ∙ sym (cond-false _ _ _ (and_right _ _ (ne_eqb (sent t s.log + 1) (size (packet t l)) (λ z. a (last_one ∙ z ∙ sym in_all)))))
+            go (inr a) (inr d) = ap (λ xs. get_or (map items xs) m []) (goes.stays a) ∙ b.queued m k ∙ sym (elsewhere d)
 
         some : (f : Flit) → o ≡ Some f → (q u : Queue Event) (after : List (Option Flit)) (y : ℕ) → after ≡ set places (place_of p) (Some f) → y ≡ i.cycles →
             u ≡ put q (event_of y In f n) → Let F P s n l j q u after

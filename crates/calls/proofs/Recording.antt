@@ -1,29 +1,18 @@
 -- Lists in the records of tickets, and the tickets that wait at a node.
-use Rattle.std.proofs.Common.{◌≡◌, ℕ, ◌+◌, ◌-◌, ◌<◌, ◌≤◌, cond, eqb, ◌⊎◌, List, [], ◌∷◌, ◌++◌, length, get_or, take, drop, set, Some, None, Option, unwrap_or, sym, refl, ap, ◌∙◌, subst, subst₂, inl, inr, add-one, arith}
-use Rattle.std.proofs.lemmas.List.{take_more, length-append, length-drop, take-append-le, drop-take, get_or-set_same, get_or-set_other}
+use Rattle.std.proofs.Common.{◌≡◌, ℕ, ◌+◌, ◌<◌, ◌≤◌, cond, eqb, ◌⊎◌, List, [], ◌∷◌, ◌++◌, length, get_or, map, take, drop, set, Some, None, Option, unwrap_or, sym, refl, ap, ◌∙◌, subst, subst₂, inl, inr, add-one, arith}
+use Rattle.std.proofs.lemmas.List.{map-set, get_or-map, take_more, length-append, get_or-set_same, get_or-set_other}
 use Rattle.std.proofs.lemmas.Bool.{cases_eq, cond-true, cond-false, eq-eqb, ne_eqb}
 use Rattle.fabric.specs.declared.parts.Flit.{Flit}
+use Rattle.batch.specs.declared.batch.Batch.{Batch}
+use Rattle.batch.specs.Items.{items, first_of}
 use Rattle.network.specs.Log.{value}
 use Rattle.calls.specs.declared.ticket.Ticket.{Ticket}
-use Rattle.calls.specs.declared.waits.Waits.{Waits}
 use Rattle.calls.specs.declared.tables.Tables.{Tables}
-use Rattle.calls.specs.Records.{values, head_of, line_of, no_waits, Keeps, Receives, Sends, TakesIn, LetsGo}
+use Rattle.calls.specs.Records.{values, lines, line_at, Keeps, Receives, Sends, TakesIn, LetsGo}
 
 pub value_or : (o : Option ℕ) → unwrap_or o 0 ≡ value o
 value_or None = refl
 value_or (Some x) = refl
-
-pub head_taken : (xs : List ℕ) (n : ℕ) → 0 < n → 0 < length xs → Some (get_or xs 0 0) ≡ head_of (take n xs)
-head_taken [] n h l = absurd (omega arith)
-head_taken (x ∷ xs) ℕ.zero h l = absurd (omega arith)
-head_taken (x ∷ xs) (ℕ.suc n) h l = refl
-
-pub front_leaves : (xs : List ℕ) (h : ℕ) → 0 < h → h ≤ length xs → take (h - 1) (drop 1 xs ++ take 1 xs) ≡ drop 1 (take h xs)
-front_leaves xs h p l =
-    let e : 1 + (h - 1) ≡ h = omega arith in
-    take-append-le (h - 1) (drop 1 xs) (take 1 xs) (omega (arith, length-drop 1 xs))
-    ∙ sym (drop-take 1 (h - 1) xs)
-    ∙ ap (λ k. drop 1 (take k xs)) e
 
 -- the words received, in places enough
 pub values_upto : (xs : List (Option ℕ)) (ys : List ℕ) (n : ℕ) → n ≤ length xs → n ≤ length ys → ((i : ℕ) → i < n → get_or ys i 0 ≡ unwrap_or (get_or xs i None) 0) →
@@ -40,15 +29,15 @@ length_values xs ℕ.zero = refl
 length_values xs (ℕ.suc n) = length-append (values xs n) _ ∙ ap (λ k. k + 1) (length_values xs n) ∙ add-one n
 
 -- the first of a line, if there is one
-pub head_none : (xs : List ℕ) → None ≡ head_of xs → (t : ℕ) (ts : List ℕ) → xs ≡ t ∷ ts → ⊥
+pub head_none : (xs : List ℕ) → None ≡ first_of xs → (t : ℕ) (ts : List ℕ) → xs ≡ t ∷ ts → ⊥
 head_none [] e t ts q = let z : ◌≡◌ {A = ℕ} 0 1 = cc in omega arith
 head_none (x ∷ xs) e t ts q = let z : ◌≡◌ {A = ℕ} 0 1 = cc in omega arith
 
-pub head_some : (xs : List ℕ) (u : ℕ) → Some u ≡ head_of xs → (t : ℕ) (ts : List ℕ) → xs ≡ t ∷ ts → t ≡ u
+pub head_some : (xs : List ℕ) (u : ℕ) → Some u ≡ first_of xs → (t : ℕ) (ts : List ℕ) → xs ≡ t ∷ ts → t ≡ u
 head_some [] u e t ts q = let z : ◌≡◌ {A = ℕ} 0 1 = cc in absurd (omega arith)
 head_some (x ∷ xs) u e t ts q = cc
 
-pub head_empty : (xs : List ℕ) (u : ℕ) → Some u ≡ head_of xs → xs ≡ [] → ⊥
+pub head_empty : (xs : List ℕ) (u : ℕ) → Some u ≡ first_of xs → xs ≡ [] → ⊥
 head_empty [] u e q = let z : ◌≡◌ {A = ℕ} 0 1 = cc in omega arith
 head_empty (x ∷ xs) u e q = let z : ◌≡◌ {A = ℕ} 0 1 = cc in omega arith
 
@@ -68,13 +57,10 @@ took_in i j f p q k w there re ti =
 
 -- the ticket that goes is the first of its line
 pub let_go : (i j : Tables) (n u v t : ℕ) (o : Option Flit) (p r its : Ticket) → v ≡ u → t ≡ u → get_or i.tickets v None ≡ Some p → get_or i.tickets t None ≡ Some r →
-    n < length i.waits → Sends p its u i.cycles o →
-    j.tickets ≡ set i.tickets v (Some its) → ((its.sent ≡ its.size → ⊥) → j.waits ≡ i.waits) → (line : its.sent ≡ its.size → Waits) →
-    ((e : its.sent ≡ its.size) → j.waits ≡ set i.waits n (line e)) →
-    ((e : its.sent ≡ its.size) → (get_or i.waits n no_waits).held ≤ 8 →
-    ((line e).held ≡ (get_or i.waits n no_waits).held - 1) × (line_of (line e) ≡ drop 1 (line_of (get_or i.waits n no_waits)))) →
+    n < length (lines i) → Sends p its u i.cycles o →
+    j.tickets ≡ set i.tickets v (Some its) → ((its.sent ≡ its.size → ⊥) → j.waits ≡ i.waits) → (its.sent ≡ its.size → lines j ≡ set (lines i) n (drop 1 (line_at i n))) →
     LetsGo i j n t r o
-let_go i j n u v t o p r its vu tu wi is ro se ti st li wa le =
+let_go i j n u v t o p r its vu tu wi is ro se ti st le =
     let vt : v ≡ t = vu ∙ sym tu in
     let z : ◌≡◌ {A = Option Ticket} (Some p) (Some r) = sym wi ∙ ap (λ x. get_or i.tickets x None) vt ∙ is in
     let pr : p ≡ r = cc in
@@ -84,10 +70,13 @@ let_go i j n u v t o p r its vu tu wi is ro se ti st li wa le =
       sends = subst₂ (λ (x : Ticket) (y : ℕ). Sends x its y i.cycles o) pr (sym tu) se;
       tickets = ti ∙ ap (λ x. set i.tickets x (Some its)) vt;
       stays = st;
-      line = li;
-      waits = wa;
       leaves = le;
     }
+
+-- one node's line is changed
+pub one_line : (ws : List (Batch ℕ 8)) (n : ℕ) (b d : Batch ℕ 8) (f : List ℕ → List ℕ) → n < length ws → items b ≡ f (items (get_or ws n d)) →
+    map items (set ws n b) ≡ set (map items ws) n (f (get_or (map items ws) n []))
+one_line ws n b d f h e = map-set items ws n b ∙ ap (λ x. set (map items ws) n x) (e ∙ ap f (sym (get_or-map items ws n d [] h)))
 
 -- a word in its place
 pub got : (xs : List (Option ℕ)) (k m w j : ℕ) → m ≡ k → m < length xs → get_or (set xs m (Some w)) j None ≡ cond (eqb j k) (Some w) (get_or xs j None)

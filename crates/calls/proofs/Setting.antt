@@ -17,10 +17,9 @@ use Rattle.network.specs.Runs.Leads.{set_up}
 use Rattle.network.proofs.Running.{peel}
 use Rattle.calls.specs.declared.tables.Tables.{Tables}
 use Rattle.calls.specs.declared.ticket.Ticket.{Ticket}
-use Rattle.calls.specs.declared.waits.Waits.{Waits}
 use Rattle.calls.specs.Fits.{Fits}
-use Rattle.calls.specs.Records.{nobody, no_waits, Starts}
-use Rattle.calls.specs.Follow.{Entry, Lined, Follows, Begins, slot_of}
+use Rattle.calls.specs.Records.{Starts}
+use Rattle.calls.specs.Follow.{Entry, Follows, Begins, slot_of}
 use Rattle.calls.proofs.Promising.{whole}
 
 pub place_below : (p : Port) → place_of p < 4
@@ -58,8 +57,7 @@ begin F law i P x ok =
             subst (λ (o : Option Ticket). Entry o t []) (sym e) (all_free t);
         queued = λ n h.
             let b = law.few_nodes in
-            let e : get_or i.waits n no_waits ≡ nobody = ap (λ xs. get_or xs n no_waits) x.waits ∙ get_or-replicate 64 n nobody no_waits (omega arith) in
-            subst (λ (r : Waits). Lined r []) (sym e) (record { room = omega arith; count = refl; line = refl });
+            ap (λ xs. get_or xs n []) x.waits ∙ get_or-replicate 64 n [] [] (omega arith);
       };
     }
 

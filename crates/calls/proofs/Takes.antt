@@ -1,5 +1,5 @@
 -- A node takes a flit off: the tables then show the log with that.
-use Rattle.std.proofs.Common.{◌≡◌, ℕ, ◌<◌, cond, ◌&&◌, eqb, ◌⊎◌, List, ◌∷◌, ◌++◌, get_or, set, Some, None, Option, sym, refl, ap, ◌∙◌, subst, inl, inr, arith}
+use Rattle.std.proofs.Common.{◌≡◌, ℕ, ◌<◌, cond, ◌&&◌, eqb, ◌⊎◌, List, ◌∷◌, ◌++◌, get_or, map, set, Some, None, Option, sym, refl, ap, ◌∙◌, subst, inl, inr, arith}
 use mathlib.Core.Path.{fun_ext}
 use Rattle.std.proofs.lemmas.Bool.{cases_eq, eq-eqb, ne_eqb, cond-false, and_left}
 use Rattle.fabric.specs.declared.parts.Port.{Port}
@@ -9,6 +9,7 @@ use Rattle.fabric.specs.Layouts.{Lawful}
 use Rattle.fabric.specs.Ports.{place_of}
 use Rattle.switch.specs.Switches.{at}
 use Rattle.line.specs.Queues.{Queue, put}
+use Rattle.batch.specs.Items.{items}
 use Rattle.bounds.specs.declared.settings.Settings.{Settings}
 use Rattle.bounds.specs.SetUp.{all_tickets}
 use Rattle.network.specs.declared.event.Event.{Event}
@@ -21,9 +22,8 @@ use Rattle.network.specs.Computed.{due, best, same_port, without, taken, left}
 use Rattle.network.proofs.Invariant.{Inv, Sits, Opened}
 use Rattle.network.proofs.Nodes.{taken_here}
 use Rattle.calls.specs.declared.ticket.Ticket.{Ticket}
-use Rattle.calls.specs.declared.waits.Waits.{Waits}
 use Rattle.calls.specs.declared.tables.Tables.{Tables}
-use Rattle.calls.specs.Records.{Keeps, Receives, TakesIn}
+use Rattle.calls.specs.Records.{lines, Keeps, Receives, TakesIn}
 use Rattle.calls.specs.Telling.{event_of}
 use Rattle.calls.specs.Follow.{slot_of, Recorded, Entry, Records, Queued}
 use Rattle.calls.specs.Midway.{Reached, Between, Took}
@@ -43,13 +43,13 @@ set_ordered here W o = refl
 
 -- the tables after nothing but tickets and queues changed
 pub between : (F : Fabric) (s : State) (l m : Log) (i j : Tables) → Keeps i j → Between F s l i → Records (all_tickets F.plan i.settings) j.tickets m →
-    Queued F.plan.nodes i.settings.tickets j.waits m → Between F s m j
+    Queued F.plan.nodes i.settings.tickets (lines j) m → Between F s m j
 between F s l m i j k b r q =
     record {
       cycles = k.cycles ∙ b.cycles;
       slots = λ n p h. ap (λ xs. slot_of xs n p) k.slots ∙ b.slots n p h;
       records = subst (λ (P : Settings). Records (all_tickets F.plan P) j.tickets m) (sym k.settings) r;
-      queued = subst (λ (P : Settings). Queued F.plan.nodes P.tickets j.waits m) (sym k.settings) q;
+      queued = subst (λ (P : Settings). Queued F.plan.nodes P.tickets (lines j) m) (sym k.settings) q;
     }
 
 module _ (f : Flit) (n c : ℕ) (l : Log) where
@@ -94,7 +94,7 @@ module _ (F : Fabric) (i : Tables) (s : State) (l : Log) (n g : ℕ) (law : Lawf
   took_none j q k ti wa e =
       record {
         shows = subst (λ (o : Option (Port × Flit)). Between F s (off_at s.cycles n o ++ l) j) (sym e)
-            (between F s l l i j k b (subst (λ (xs : List (Option Ticket)). Records (all_tickets F.plan P) xs l) (sym ti) b.records) (subst (λ (xs : List Waits). Queued F.plan.nodes P.tickets xs l) (sym wa) b.queued));
+            (between F s l l i j k b (subst (λ (xs : List (Option Ticket)). Records (all_tickets F.plan P) xs l) (sym ti) b.records) (subst (λ (xs : List (List ℕ)). Queued F.plan.nodes P.tickets xs l) (sym (ap (map items) wa)) b.queued));
         gives = same_places ∙ ap (λ (o : Option (Port × Flit)). in_slot_order (without o (s.slot n))) (sym e);
         line = ap (λ (o : Option (Port × Flit)). put_all q (told (off_at s.cycles n o))) (sym e);
         count = ap (λ (o : Option (Port × Flit)). count_off (off_at s.cycles n o)) (sym e);
@@ -137,7 +137,7 @@ module _ (F : Fabric) (i : Tables) (s : State) (l : Log) (n g : ℕ) (law : Lawf
         record {
           shows = subst (λ (o : Option (Port × Flit)). Between F s (off_at s.cycles n o ++ l) j) (sym e)
               (between F s l (off f n s.cycles ∷ l) i j t.keeps b (records j t (get_or i.tickets f.ticket None) refl)
-              (subst (λ (xs : List Waits). Queued F.plan.nodes P.tickets xs l) (sym t.waits) b.queued));
+              (subst (λ (xs : List (List ℕ)). Queued F.plan.nodes P.tickets xs l) (sym (ap (map items) t.waits)) b.queued));
           gives = pl ∙ ap (λ xs. set xs (place_of p) None) same_places ∙ set_ordered (s.slot n) p None ∙ ap (λ (o : Option (Port × Flit)). in_slot_order (without o (s.slot n))) (sym e);
           line =
               li ∙ ap (λ c. put q (event_of c Out f n)) (ev ∙ b.cycles)

@@ -1,5 +1,5 @@
 -- One node's work in a cycle.
-use Rattle.std.proofs.Common.{◌≡◌, ℕ, suc, ◌+◌, ◌*◌, ◌<◌, ◌≤◌, Bool, ◌⊎◌, List, [], ◌∷◌, ◌++◌, length, get_or, Some, None, Option, sym, refl, ap, ◌∙◌, subst, subst₂, inl, inr, append_assoc, add-zero, add-one, arith}
+use Rattle.std.proofs.Common.{◌≡◌, ℕ, suc, ◌+◌, ◌*◌, ◌<◌, ◌≤◌, Bool, ◌⊎◌, List, [], ◌∷◌, ◌++◌, length, get_or, map, Some, None, Option, sym, refl, ap, ◌∙◌, subst, subst₂, inl, inr, append_assoc, add-zero, add-one, arith}
 use mathlib.Core.Path.{fun_ext}
 use Rattle.std.proofs.lemmas.List.{append-nil, length-append}
 use Rattle.std.proofs.lemmas.Bool.{cases_eq}
@@ -8,6 +8,7 @@ use Rattle.fabric.specs.declared.parts.Flit.{Flit}
 use Rattle.fabric.specs.Layouts.{Lawful}
 use Rattle.switch.specs.Switches.{Handing, at, turned}
 use Rattle.line.specs.Queues.{Queue}
+use Rattle.batch.specs.Items.{items}
 use Rattle.bounds.specs.declared.settings.Settings.{Settings}
 use Rattle.bounds.specs.SetUp.{all_tickets}
 use Rattle.clock.specs.Draws.{register, shifted, draw_bits}
@@ -20,7 +21,6 @@ use Rattle.network.specs.Computed.{taken, left, entering, ready, handing, leavin
 use Rattle.network.proofs.Invariant.{Inv}
 use Rattle.network.proofs.Cycling.{off_packet, off_waiting, off_sent, keeps_packet, keeps_waiting, keeps_sent, grown, half_log, grown_none, grown_more}
 use Rattle.calls.specs.declared.ticket.Ticket.{Ticket}
-use Rattle.calls.specs.declared.waits.Waits.{Waits}
 use Rattle.calls.specs.declared.tables.Tables.{Tables}
 use Rattle.calls.specs.Records.{Draws}
 use Rattle.calls.specs.Steps.{wished, far_place, Spread}
@@ -57,7 +57,7 @@ between_same F s l i j d b =
       cycles = d.cycles ∙ b.cycles;
       slots = λ n p h. ap (λ xs. slot_of xs n p) d.slots ∙ b.slots n p h;
       records = subst₂ (λ (P : Settings) (ts : List (Option Ticket)). Records (all_tickets F.plan P) ts l) (sym d.settings) (sym d.tickets) b.records;
-      queued = subst₂ (λ (P : Settings) (ws : List Waits). Queued F.plan.nodes P.tickets ws l) (sym d.settings) (sym d.waits) b.queued;
+      queued = subst₂ (λ (P : Settings) (ws : List (List ℕ)). Queued F.plan.nodes P.tickets ws l) (sym d.settings) (sym (ap (map items) d.waits)) b.queued;
     }
 
 module _ (F : Fabric) (P : Settings) (s : State) where

@@ -1,27 +1,19 @@
 -- The record of a ticket, a node's waiting tickets, and how calls change them.
-use Rattle.std.specs.Prelude.{◌≡◌, ℕ, ◌+◌, ◌-◌, ◌<◌, ◌≤◌, Bool, true, cond, ◌&&◌, List, [], ◌∷◌, ◌++◌, length, take, drop, replicate, Some, None, Option, ◌==◌, ◌≢◌, slice_index, slice_index_or, slice_set}
+use Rattle.std.specs.Prelude.{◌≡◌, ℕ, ◌+◌, ◌<◌, Bool, true, cond, ◌&&◌, List, [], ◌∷◌, ◌++◌, length, map, drop, replicate, Some, None, Option, ◌==◌, ◌≢◌, slice_index, slice_index_or, slice_set}
 use Rattle.fabric.specs.declared.parts.Flit.{Flit}
+use Rattle.batch.specs.Items.{items, joined}
 use Rattle.bounds.specs.declared.settings.Settings.{Settings}
 use Rattle.clock.specs.Draws.{shifted, draw_bits}
 use Rattle.network.specs.Log.{has, value}
 use Rattle.calls.specs.declared.ticket.Ticket.{Ticket}
-use Rattle.calls.specs.declared.waits.Waits.{Waits}
 use Rattle.calls.specs.declared.tables.Tables.{Tables}
 
-abbrev pub nobody : Waits
-nobody = record { tickets = replicate 8 0; held = 0 }
+-- the tickets that wait at each node, the first in front
+abbrev pub lines : Tables → List (List ℕ)
+lines i = map items i.waits
 
--- what stands for an element past a table's end
-abbrev pub no_waits : Waits
-no_waits = record { tickets = []; held = 0 }
-
--- who waits, the first in front
-abbrev pub line_of : Waits → List ℕ
-line_of w = take w.held w.tickets
-
-abbrev pub head_of : List ℕ → Option ℕ
-head_of [] = None
-head_of (x ∷ xs) = Some x
+abbrev pub line_at : Tables → ℕ → List ℕ
+line_at i n = slice_index_or (lines i) n []
 
 -- the first m places all hold a word
 abbrev pub all_in : List (Option ℕ) → ℕ → Bool
@@ -45,7 +37,7 @@ pub record Starts (i : Tables) (P : Settings) : Type 0 where
   pub register : i.register ≡ P.seed
   pub slots : i.slots ≡ replicate 256 None
   pub tickets : i.tickets ≡ replicate 512 None
-  pub waits : i.waits ≡ replicate 64 nobody
+  pub waits : lines i ≡ replicate 64 []
 
 -- a packet just accepted
 pub record Packed (r : Ticket) (destination : ℕ) (ws : List ℕ) : Type 0 where
@@ -68,9 +60,7 @@ pub record Accepts (i j : Tables) (n t d : ℕ) (ws : List ℕ) : Type 0 where
   pub its : Ticket
   pub packed : Packed its d ws
   pub tickets : j.tickets ≡ slice_set i.tickets t (Some its)
-  pub line : Waits
-  pub joined : (slice_index_or i.waits n no_waits).held < 8 → (line.held ≡ (slice_index_or i.waits n no_waits).held + 1) × (line_of line ≡ line_of (slice_index_or i.waits n no_waits) ++ t ∷ [])
-  pub waits : j.waits ≡ slice_set i.waits n line
+  pub waits : lines j ≡ slice_set (lines i) n (joined 8 (line_at i n) t)
 
 -- a ticket whose packet is collected is free
 pub record Frees (i j : Tables) (t : ℕ) : Type 0 where
@@ -107,18 +97,15 @@ pub record TakesIn (i j : Tables) (f : Flit) : Type 0 where
 pub record LetsGo (i j : Tables) (n t : ℕ) (r : Ticket) (o : Option Flit) : Type 0 where
   pub its : Ticket
   pub sends : Sends r its t i.cycles o
-  pub room : n < length i.waits
+  pub room : n < length (lines i)
   pub tickets : j.tickets ≡ slice_set i.tickets t (Some its)
   pub stays : (its.sent ≢ its.size) → j.waits ≡ i.waits
-  pub line : its.sent ≡ its.size → Waits
-  pub waits : (e : its.sent ≡ its.size) → j.waits ≡ slice_set i.waits n (line e)
-  pub leaves : (e : its.sent ≡ its.size) → (slice_index_or i.waits n no_waits).held ≤ 8 →
-      ((line e).held ≡ (slice_index_or i.waits n no_waits).held - 1) × (line_of (line e) ≡ drop 1 (line_of (slice_index_or i.waits n no_waits)))
+  pub leaves : its.sent ≡ its.size → lines j ≡ slice_set (lines i) n (drop 1 (line_at i n))
 
 pub record LetsIn (i j : Tables) (n : ℕ) (o : Option Flit) : Type 0 where
   pub keeps : Keeps i j
-  pub none : line_of (slice_index_or i.waits n no_waits) ≡ [] → (o ≡ None) × (j.tickets ≡ i.tickets) × (j.waits ≡ i.waits)
-  pub some : (t : ℕ) (ts : List ℕ) (r : Ticket) → line_of (slice_index_or i.waits n no_waits) ≡ t ∷ ts → slice_index_or i.tickets t None ≡ Some r →
+  pub none : line_at i n ≡ [] → (o ≡ None) × (j.tickets ≡ i.tickets) × (j.waits ≡ i.waits)
+  pub some : (t : ℕ) (ts : List ℕ) (r : Ticket) → line_at i n ≡ t ∷ ts → slice_index_or i.tickets t None ≡ Some r →
       LetsGo i j n t r o
 
 -- the draw register is shifted

@@ -2,7 +2,7 @@
 ghost use Rattle.calls.specs.Fits.{Fits};
 
 use super::ticket::Ticket;
-use super::waits::Waits;
+use batch::Batch;
 use bounds::settings::Settings;
 use fabric::parts::Flit;
 
@@ -15,6 +15,9 @@ pub(crate) const SLOTS: usize = 256;
 
 pub(crate) const TICKETS: usize = 512;
 
+// tickets of one node, at most
+pub(crate) const OWN: usize = 8;
+
 #[derive(Drop)]
 pub(crate) struct Tables {
     pub settings: Settings,
@@ -26,7 +29,7 @@ pub(crate) struct Tables {
     pub slots: [Option<Flit>; SLOTS],
     // as many of each node as the settings say; a free one has no record
     pub tickets: [Option<Ticket>; TICKETS],
-    // a queue of each node
-    pub waits: [Waits; NODES],
+    // of each node those tickets that wait, in the order of their offers
+    pub waits: [Batch<u16, OWN>; NODES],
     ghost fits: { Fits settings },
 }

@@ -7,8 +7,8 @@ ghost use Rattle.calls.specs.Records.{arrived as has_arrived, Starts, Accepts, F
 ghost use Rattle.calls.specs.Follow.{slot_of};
 
 use super::super::ticket::Ticket;
-use super::super::waits::NOBODY;
 use super::{NODES, SLOTS, TICKETS, Tables};
+use batch::Batch;
 use bounds::settings::Settings;
 use clock::draw::shift;
 use clock::epoch::golden;
@@ -26,17 +26,19 @@ impl Tables {
             register: settings.seed as u16,
             slots: [None; SLOTS],
             tickets: [None; TICKETS],
-            waits: [NOBODY; NODES],
+            waits: [Batch::new(0); NODES],
         }
     }
 
-    // Takes over a packet under a free ticket of a node, where it then waits.
+    // Takes over a packet under a free ticket of a node, where it then waits: fewer than all of the node's tickets wait then.
     pub(crate) fn accept(&mut self, node: usize, ticket: usize, destination: usize, words: &[u32])
         requires { (node < 64) × ((ticket < 512) × ((destination < 64) × (length words.now ≤ 4))) }
         ensures { Accepts self.old self.new node ticket destination words.now }
     {
         self.tickets[ticket] = Some(Ticket::new(destination as u8, words));
-        self.waits[node].put(ticket as u16);
+        let mut line = self.waits[node];
+        let _ = line.push(ticket as u16);
+        self.waits[node] = line;
     }
 
     // The packet under a ticket, if it is complete and goes to this node.
@@ -74,14 +76,15 @@ impl Tables {
         requires { node < 64 }
         ensures { LetsIn self.old self.new node result }
     {
-        let line = self.waits[node];
+        let mut line = self.waits[node];
         let ticket = line.first()?;
         let t = usize::from(ticket);
         let mut packet = (*self.tickets.get(t)?)?;
         let flit = packet.send(ticket, self.cycles);
         self.tickets[t] = Some(packet);
         if packet.sent == packet.size {
-            self.waits[node].leave();
+            line.remove_first();
+            self.waits[node] = line;
         }
         flit
     }
