@@ -1,10 +1,11 @@
 -- What a collection does.
-use Rattle.std.proofs.Common.{◌≡◌, ℕ, ◌<◌, ◌≤◌, Bool, true, false, cond, not, ◌&&◌, ◌||◌, eqb, leb, ◌⊎◌, List, [], ◌∷◌, ◌++◌, length, get_or, None, Option, sym, refl, ap, ◌∙◌, subst, inl, inr, arith}
+use Rattle.std.proofs.Common.{◌≡◌, ℕ, ◌<◌, ◌≤◌, Bool, true, false, cond, not, ◌&&◌, ◌||◌, eqb, ltb, leb, ◌⊎◌, List, [], ◌∷◌, ◌++◌, length, get_or, map, is_some, Some, None, Option, sym, refl, ap, ◌∙◌, subst, inl, inr, arith}
 use lib.Arith.{digits_lt}
-use Rattle.std.proofs.lemmas.Bool.{le-leb, lt-leb, le-ltb, lt-ltb, eq-eqb, ne_eqb, or_left, or_right, or_from, cond-true, cond-false, not_from_true, not_from_false}
+use Rattle.std.proofs.lemmas.Bool.{le-leb, lt-leb, le-ltb, lt-ltb, eq-eqb, ne_eqb, or_left, or_right, or_from, cond-true, cond-false}
 use Rattle.fabric.specs.Layouts.{Lawful}
 use Rattle.fabric.specs.Verdicts.{Verdict}
 use Rattle.fabric.specs.Verdicts.Verdict.{granted, refused}
+use Rattle.batch.specs.Items.{items}
 use Rattle.bounds.specs.declared.settings.Settings.{Settings}
 use Rattle.bounds.specs.SetUp.{all_tickets}
 use Rattle.network.specs.Log.{Log, packet, size, aim, free, received, has, value, filled, complete, gathered}
@@ -16,9 +17,8 @@ use Rattle.network.specs.Runs.Outcome.{collecting}
 use Rattle.network.specs.Computed.{decided}
 use Rattle.calls.specs.declared.tables.Tables.{Tables}
 use Rattle.calls.specs.declared.ticket.Ticket.{Ticket}
-use Rattle.calls.specs.declared.waits.Waits.{Waits}
-use Rattle.calls.specs.Records.{no_ticket, all_in, values, Frees}
-use Rattle.calls.specs.Follow.{Shows, Recorded, Records, Queued}
+use Rattle.calls.specs.Records.{all_in, values, arrived, lines, Frees}
+use Rattle.calls.specs.Follow.{Shows, Recorded, Entry, Records, Queued}
 use Rattle.calls.proofs.Promising.{Works}
 use Rattle.calls.proofs.Setting.{ticket_below}
 use Rattle.calls.proofs.Showing.{like, change, logged}
@@ -34,14 +34,47 @@ all_gathered xs t l h ℕ.zero q = refl
 all_gathered xs t l h (ℕ.suc m) q =
     ap (λ ys. ys ++ (value (get_or xs m None) ∷ [])) (all_gathered xs t l h m (omega arith)) ∙ ap (λ o. gathered t m l ++ (value o ∷ [])) (h m (omega arith))
 
-module _ (r : Ticket) (t : ℕ) (l : Log) (h : Recorded r t l) where
-  is_complete : (r.busy && all_in r.received r.size) ≡ complete t l
+module _ (r : Ticket) (t : ℕ) (l : Log) (taken : true ≡ not (free t l)) (h : Recorded r t l) where
+  is_complete : all_in r.received r.size ≡ complete t l
   is_complete =
-      ap (λ b. b && all_in r.received r.size) h.opened
-      ∙ ap (λ b. not (free t l) && b) (all_filled r.received t l h.received r.size h.short ∙ ap (λ m. filled t m l) h.size)
+      all_filled r.received t l h.received r.size r.short
+      ∙ ap (λ m. filled t m l) h.size
+      ∙ ap (λ b. b && filled t (size (packet t l)) l) taken
 
-  holds : values r.received r.size ≡ gathered t (size (packet t l)) l
-  holds = all_gathered r.received t l h.received r.size h.short ∙ ap (λ m. gathered t m l) h.size
+holds : (r : Ticket) (t : ℕ) (l : Log) → Recorded r t l → values r.received r.size ≡ gathered t (size (packet t l)) l
+holds r t l h = all_gathered r.received t l h.received r.size r.short ∙ ap (λ m. gathered t m l) h.size
+
+-- two tests, that both hold or not
+not_both : (a b : Bool) → (a && b) ≡ false → (not a || not b) ≡ true
+not_both true true e = sym e
+not_both true false e = refl
+not_both false b e = refl
+
+both : (a b : Bool) → (a && b) ≡ true → (not a || not b) ≡ false
+both true true e = refl
+both true false e = sym e
+both false b e = sym e
+
+-- a packet that the code finds is there, complete, and goes to the node
+found : (o : Option Ticket) (r : ℕ) (p : Ticket) → arrived o r ≡ Some p → o ≡ Some p
+found None r p e = cc
+found (Some q) r p e = go (all_in q.received q.size && eqb q.destination r) e
+  where
+    go : (b : Bool) → cond b (Some q) None ≡ Some p → Some q ≡ Some p
+    go true e = e
+    go false e = cc
+
+arrives : (o : Option Ticket) (t r : ℕ) (l : Log) → Entry o t l → is_some (arrived o r) ≡ (complete t l && eqb (aim (packet t l)) r)
+arrives None t r l e = sym (ap (λ b. (b && filled t (size (packet t l)) l) && eqb (aim (packet t l)) r) (sym e.opened))
+arrives (Some p) t r l e =
+    let h = e.recorded p refl in
+    is_some_cond (all_in p.received p.size && eqb p.destination r) p
+    ∙ ap (λ b. b && eqb p.destination r) (is_complete p t l e.opened h)
+    ∙ ap (λ d. complete t l && eqb d r) h.destination
+  where
+    is_some_cond : (b : Bool) (q : Ticket) → is_some (cond b (Some q) None) ≡ b
+    is_some_cond true q = refl
+    is_some_cond false q = refl
 
 module _ (F : Fabric) (i : Tables) (r n o : ℕ) (memory : List ℕ) where
   abbrev P : Settings
@@ -50,8 +83,8 @@ module _ (F : Fabric) (i : Tables) (r n o : ℕ) (memory : List ℕ) where
   abbrev t : ℕ
   t = ticket F P n o
 
-  abbrev its : Ticket
-  its = get_or i.tickets t no_ticket
+  abbrev its : Option Ticket
+  its = get_or i.tickets t None
 
   abbrev then : State → State
   then s = with_log F P s (collected t r (gathered t (size (packet t s.log)) s.log))
@@ -80,74 +113,57 @@ module _ (F : Fabric) (i : Tables) (r n o : ℕ) (memory : List ℕ) where
     own : t < all_tickets F.plan P
     own = digits_lt hn ho
 
-    -- what the code's test of completeness answers
-    abbrev Asked : Bool → Type 0
-    Asked b = its.size ≤ 4 → b ≡ (its.busy && all_in its.received its.size)
+    asked : (s : State) → Shows F i s → is_some (arrived its r) ≡ (complete t s.log && eqb (aim (packet t s.log)) r)
+    asked s sh = arrives its t r s.log (sh.records t own)
 
-    asked : (b : Bool) → Asked b → (s : State) → Shows F i s → b ≡ complete t s.log
-    asked b a s sh = let h = sh.records t own in a h.short ∙ is_complete its t s.log h
+    pub not_complete : arrived its r ≡ None → Works F i i (collect r n o memory) (collecting (refused 8 []) memory)
+    not_complete e =
+        refuses 8 (λ s sh. first _ _ ∙ cond-true _ _ (cond {A = Verdict ℕ} (ltb (length memory) (size (packet t s.log))) (refused 9 []) (granted (size (packet t s.log)))) (not_both (complete t s.log) (eqb (aim (packet t s.log)) r) (sym (asked s sh) ∙ ap (λ (x : Option Ticket). is_some x) e)))
 
-    pub not_complete : (b : Bool) → Asked b → (b ≡ false) ⊎ (its.destination ≡ r → ⊥) → Works F i i (collect r n o memory) (collecting (refused 8 []) memory)
-    not_complete b a (inl e) = refuses 8 (λ s sh. first _ _ ∙ cond-true _ _ _ (or_left _ _ (not_from_false _ (sym (asked b a s sh) ∙ e))))
-    not_complete b a (inr e) =
-        refuses 8 (λ s sh. first _ _ ∙ cond-true _ _ _ (or_right _ _ (not_from_false _ (ne_eqb _ r (λ q. e ((sh.records t own).destination ∙ q))))))
+    module _ (p : Ticket) (there : arrived its r ≡ Some p) where
+      recorded : (s : State) → Shows F i s → Recorded p t s.log
+      recorded s sh = (sh.records t own).recorded p (found its r p there)
 
-    module _ (b : Bool) (a : Asked b) (yes_b : b ≡ true) (to : its.destination ≡ r) where
       second : {A : Type 0} (s : State) → Shows F i s → (x y : A) → cond (not (complete t s.log) || not (eqb (aim (packet t s.log)) r)) x y ≡ y
-      second s sh x y =
-          cond-false _ _ _ (or_from _ _ (not_from_true _ (sym (asked b a s sh) ∙ yes_b)) (not_from_true _ (eq-eqb _ r (sym (sh.records t own).destination ∙ to))))
+      second s sh x y = cond-false _ x y (both (complete t s.log) (eqb (aim (packet t s.log)) r) (sym (asked s sh) ∙ ap (λ (x : Option Ticket). is_some x) there))
 
-      pub no_memory : length memory < its.size → Works F i i (collect r n o memory) (collecting (refused 9 []) memory)
+      pub no_memory : length memory < p.size → Works F i i (collect r n o memory) (collecting (refused 9 []) memory)
       no_memory h =
-          refuses 9 (λ s sh. first _ _ ∙ second s sh _ _ ∙ cond-true _ _ _ (lt-ltb (length memory) _ (subst (λ (m : ℕ). length memory < m) (sh.records t own).size h)))
+          refuses 9 (λ s sh. first _ _ ∙ second s sh _ _ ∙ cond-true _ _ _ (lt-ltb (length memory) _ (subst (λ (m : ℕ). length memory < m) (recorded s sh).size h)))
 
-      module _ (law : Lawful F.plan) (enough : its.size ≤ length memory) (j : Tables) (f : Frees i j t) (lt : length i.tickets ≡ 512) where
-        verdict : (s : State) → Shows F i s → collect_verdict F P s r n o memory ≡ granted its.size
+      module _ (law : Lawful F.plan) (enough : p.size ≤ length memory) (j : Tables) (f : Frees i j t) (lt : length i.tickets ≡ 512) where
+        verdict : (s : State) → Shows F i s → collect_verdict F P s r n o memory ≡ granted p.size
         verdict s sh =
-            let z = (sh.records t own).size in
+            let z = (recorded s sh).size in
             first _ _ ∙ second s sh _ _ ∙ cond-false _ _ _ (le-ltb (length memory) _ (subst (λ (m : ℕ). m ≤ length memory) z enough)) ∙ ap granted (sym z)
-
-        freed : (l : Log) (ws : List ℕ) → Recorded its t l → Recorded f.its t (collected t r ws ∷ l)
-        freed l ws h =
-            let e = eq-eqb t t refl in
-            record {
-              opened = f.free ∙ ap not (sym (cond-true _ _ _ e));
-              destination = f.destination ∙ h.destination;
-              size = f.size ∙ h.size;
-              sent = f.sent ∙ h.sent;
-              words = λ k q. ap (λ xs. get_or xs k 0) f.words ∙ h.words k q;
-              short = let z = h.short in let y = f.size in omega arith;
-              received = λ k q. ap (λ xs. get_or xs k None) f.received ∙ h.received k q;
-            }
 
         records : (s : State) → Shows F i s → (ws : List ℕ) → Records (all_tickets F.plan P) j.tickets (collected t r ws ∷ s.log)
         records s sh ws =
-            let below = ticket_below F law P i.few in
+            let below = ticket_below F law P i.fits.few in
             let mine = own in
             let then_log : Log = collected t r ws ∷ s.log in
-            subst (λ (xs : List Ticket). Records (all_tickets F.plan P) xs then_log) (sym f.tickets)
-            (change (all_tickets F.plan P) t i.tickets f.its s.log then_log (omega arith) sh.records (freed s.log ws)
+            let is_free : free t then_log ≡ true = cond-true _ _ _ (eq-eqb t t refl) in
+            subst (λ (xs : List (Option Ticket)). Records (all_tickets F.plan P) xs then_log) (sym f.tickets)
+            (change (all_tickets F.plan P) t i.tickets None s.log then_log (omega arith) sh.records (record { opened = ap not (sym is_free); recorded = λ q e. cc })
             (λ u d. like _ u s.log then_log (cond-false _ _ _ (ne_eqb u t d)) refl refl (λ k. refl)))
 
-        exactly : (after : List ℕ) → (its.size ≤ 4 → after ≡ over (values its.received its.size) memory) →
-            Works F i j (collect r n o memory) (collecting (granted its.size) after)
+        exactly : (after : List ℕ) → after ≡ over (values p.received p.size) memory → Works F i j (collect r n o memory) (collecting (granted p.size) after)
         exactly after w =
             record {
               does = λ s led sh.
                   let e = verdict s sh in
-                  let h = sh.records t own in
                   let ws = gathered t (size (packet t s.log)) s.log in
-                  let queued : Queued F.plan.nodes P.tickets j.waits s.log = subst (λ (xs : List Waits). Queued F.plan.nodes P.tickets xs s.log) (sym f.waits) sh.queued in
+                  let queued : Queued F.plan.nodes P.tickets (lines j) s.log = subst (λ (xs : List (List ℕ)). Queued F.plan.nodes P.tickets xs s.log) (sym (ap (map items) f.waits)) sh.queued in
                   let shows : Shows F j (then s) = logged F i j s (collected t r ws) f.keeps sh (records s sh ws) queued in
                   record {
                     exact =
-                        ap (collecting (granted its.size)) (w h.short ∙ ap (λ ys. over ys memory) (holds its t s.log h))
+                        ap (collecting (granted p.size)) (w ∙ ap (λ ys. over ys memory) (holds p t s.log (recorded s sh)))
                         ∙ ap (λ (v : Verdict ℕ). collecting v (decided v (over ws memory) memory)) (sym e);
                     same = f.keeps.settings;
                     shows = subst (λ (v : Verdict ℕ). Shows F j (decided v (then s) s)) (sym e) shows;
                   };
             }
 
-        pub grants : (z : ℕ) → z ≡ its.size → (after : List ℕ) → (its.size ≤ 4 → after ≡ over (values its.received its.size) memory) →
+        pub grants : (z : ℕ) → z ≡ p.size → (after : List ℕ) → after ≡ over (values p.received p.size) memory →
             Works F i j (collect r n o memory) (collecting (granted z) after)
         grants z e after w = subst (λ (y : ℕ). Works F i j (collect r n o memory) (collecting (granted y) after)) (sym e) (exactly after w)

@@ -1,11 +1,12 @@
 -- What an offer does.
-use Rattle.std.proofs.Common.{◌≡◌, ℕ, ◌+◌, ◌*◌, ◌/◌, ◌%◌, ◌<◌, ◌≤◌, true, false, cond, not, ◌||◌, eqb, ltb, leb, ◌⊎◌, List, [], ◌∷◌, ◌++◌, length, get_or, Some, None, sym, refl, ap, ◌∙◌, subst, inl, inr, mod-lt, mul-le-mul_left, div-add-mod', arith}
+use Rattle.std.proofs.Common.{◌≡◌, ℕ, ◌+◌, ◌*◌, ◌/◌, ◌%◌, ◌<◌, ◌≤◌, true, false, cond, ◌||◌, eqb, ltb, leb, ◌⊎◌, List, [], ◌∷◌, ◌++◌, length, get_or, set, is_some, Some, None, Option, sym, refl, ap, ◌∙◌, subst, inl, inr, mod-lt, mul-le-mul_left, div-add-mod', arith}
 use lib.Arith.{digits_lt, digits_div}
-use Rattle.std.proofs.lemmas.List.{get_or-set_same, get_or-set_other, get_or-replicate, length-append}
+use Rattle.std.proofs.lemmas.List.{get_or-set_same, get_or-set_other, get_or-replicate, length-map}
 use Rattle.std.proofs.lemmas.Bool.{le-leb, lt-leb, le-ltb, lt-ltb, eq-eqb, ne_eqb, or_left, or_right, or_from, cond-true, cond-false, cases_eq, not_from_true, not-false, both_ways}
 use Rattle.fabric.specs.Layouts.{Plan, Lawful}
 use Rattle.fabric.specs.Verdicts.{Verdict}
 use Rattle.fabric.specs.Verdicts.Verdict.{granted, refused}
+use Rattle.batch.specs.Items.{items, joined}
 use Rattle.bounds.specs.declared.settings.Settings.{Settings}
 use Rattle.bounds.specs.SetUp.{all_tickets}
 use Rattle.network.specs.Log.{Log, Packet, packet, size, word, aim, free, waiting}
@@ -18,11 +19,10 @@ use Rattle.network.specs.Computed.{decided}
 use Rattle.network.proofs.Invariant.{Each, Distinct, each_map, Waits as Waiting, Inv}
 use Rattle.calls.specs.declared.tables.Tables.{Tables}
 use Rattle.calls.specs.declared.ticket.Ticket.{Ticket}
-use Rattle.calls.specs.declared.waits.Waits.{Waits}
-use Rattle.calls.specs.Records.{no_ticket, no_waits, Accepts}
-use Rattle.calls.specs.Follow.{Shows, Recorded, Records, Lined}
+use Rattle.calls.specs.Records.{lines, line_at, Accepts}
+use Rattle.calls.specs.Follow.{Shows, Recorded, Entry, Records}
 use Rattle.calls.proofs.Promising.{Works}
-use Rattle.calls.proofs.Showing.{like, change, invariant, logged}
+use Rattle.calls.proofs.Showing.{like, change, entry_of, invariant, logged}
 use Rattle.calls.proofs.Pigeons.{few}
 use Rattle.calls.proofs.Setting.{ticket_below}
 
@@ -95,12 +95,12 @@ module _ (F : Fabric) (i : Tables) (n o d : ℕ) (ws : List ℕ) where
         pub own : t < all_tickets F.plan P
         own = digits_lt hn ho
 
-        pub not_free : (get_or i.tickets t no_ticket).busy ≡ true → Works F i i (offer n o d ws) (offering (refused 7 []))
+        pub not_free : is_some (get_or i.tickets t None) ≡ true → Works F i i (offer n o d ws) (offering (refused 7 []))
         not_free b =
             refuses 7 (λ s sh. first _ _ ∙ second _ _ ∙ third _ _ ∙ cond-true _ _ _ (sym (sh.records t own).opened ∙ b))
 
         module _ (law : Lawful F.plan) (j : Tables) (a : Accepts i j n t d ws) (lt : length i.tickets ≡ 512) (lw : length i.waits ≡ 64)
-            (b : (get_or i.tickets t no_ticket).busy ≡ false) where
+            (b : is_some (get_or i.tickets t None) ≡ false) where
           abbrev p : Packet
           p = record { destination = d; words = ws }
 
@@ -119,53 +119,50 @@ module _ (F : Fabric) (i : Tables) (n o d : ℕ) (ws : List ℕ) where
               let e = eq-eqb t t refl in
               let q : packet t (offered t p ∷ l) ≡ Some p = cond-true _ _ _ e in
               record {
-                opened = a.packed.busy ∙ ap not (sym (cond-true _ _ _ e));
                 destination = a.packed.goes ∙ ap aim (sym q);
                 size = a.packed.size ∙ ap size (sym q);
                 sent = a.packed.sent ∙ sym (cond-true _ _ _ e);
                 words = λ k h. a.packed.words k h ∙ ap (λ x. word x k) (sym q);
-                short = let s = a.packed.size in let m = i.short in omega arith;
                 received = λ k h. ap (λ xs. get_or xs k None) a.packed.received ∙ get_or-replicate 4 k None None h ∙ sym (cond-true _ _ _ e);
               }
 
-          other_record : (u : ℕ) (r : Ticket) (l : Log) → (u ≡ t → ⊥) → Recorded r u l → Recorded r u (offered t p ∷ l)
+          other_record : (u : ℕ) (r : Option Ticket) (l : Log) → (u ≡ t → ⊥) → Entry r u l → Entry r u (offered t p ∷ l)
           other_record u r l h =
               let e = ne_eqb u t h in
               like r u l (offered t p ∷ l) (cond-false _ _ _ e) (cond-false _ _ _ e) (cond-false _ _ _ e) (λ k. cond-false _ _ _ e)
 
           records : (s : State) → Shows F i s → Records (all_tickets F.plan P) j.tickets (offered t p ∷ s.log)
           records s sh =
-              let below = ticket_below F law P i.few in
+              let below = ticket_below F law P i.fits.few in
               let mine = own in
-              subst (λ (xs : List Ticket). Records (all_tickets F.plan P) xs (offered t p ∷ s.log)) (sym a.tickets)
-              (change (all_tickets F.plan P) t i.tickets a.its s.log (offered t p ∷ s.log) (omega arith) sh.records (λ _. new_record s.log) (λ u d. other_record u _ s.log d))
+              subst (λ (xs : List (Option Ticket)). Records (all_tickets F.plan P) xs (offered t p ∷ s.log)) (sym a.tickets)
+              (change (all_tickets F.plan P) t i.tickets (Some a.its) s.log (offered t p ∷ s.log) (omega arith) sh.records
+              (entry_of a.its t (offered t p ∷ s.log) (cond-true _ _ _ (eq-eqb t t refl)) (new_record s.log)) (λ u d. other_record u _ s.log d))
 
-          queued : (s : State) → Inv F P s 0 → Shows F i s → (m : ℕ) → m < F.plan.nodes → Lined (get_or j.waits m no_waits) (waiting P.tickets m (offered t p ∷ s.log))
-          queued s inv sh m h = go (cases_eq m n)
+          queued : (s : State) → Inv F P s 0 → Shows F i s → (m : ℕ) → m < F.plan.nodes → get_or (lines j) m [] ≡ waiting P.tickets m (offered t p ∷ s.log)
+          queued s inv sh m h = ap (λ xs. get_or xs m []) a.waits ∙ go (cases_eq m n)
             where
-              go : (m ≡ n) ⊎ (m ≡ n → ⊥) → Lined (get_or j.waits m no_waits) (waiting P.tickets m (offered t p ∷ s.log))
+              here : List ℕ
+              here = joined 8 (line_at i n) t
+
+              go : (m ≡ n) ⊎ (m ≡ n → ⊥) → get_or (set (lines i) n here) m [] ≡ waiting P.tickets m (offered t p ∷ s.log)
               go (inl q) =
-                  let w = get_or i.waits n no_waits in
                   let xs = waiting P.tickets n s.log in
-                  let sh_n : Lined w xs = sh.queued n hn in
-                  let fewer = room P s.log n t xs i.some at_node (is_free s sh) (inv.queue n) (inv.queue_apart n) in
-                  let count = sh_n.count in
-                  let most = i.few in
-                  let joined = a.joined (omega arith) in
-                  let e : get_or j.waits n no_waits ≡ a.line = ap (λ ys. get_or ys n no_waits) a.waits ∙ get_or-set_same i.waits n a.line no_waits (let y = law.few_nodes in omega arith) in
-                  let v : waiting P.tickets n (offered t p ∷ s.log) ≡ xs ++ (t ∷ []) = cond-true _ _ _ (eq-eqb (t / P.tickets) n at_node) in
-                  let l : Lined a.line (xs ++ (t ∷ [])) = record {
-                    room = let c = joined.0 in omega arith;
-                    count = joined.0 ∙ ap (λ c. c + 1) count ∙ sym (length-append xs (t ∷ []));
-                    line = joined.1 ∙ ap (λ ys. ys ++ (t ∷ [])) sh_n.line;
-                  } in
-                  subst (λ (k : ℕ). Lined (get_or j.waits k no_waits) (waiting P.tickets k (offered t p ∷ s.log))) (sym q)
-                  (subst (λ (ys : List ℕ). Lined (get_or j.waits n no_waits) ys) (sym v) (subst (λ (x : Waits). Lined x (xs ++ (t ∷ []))) (sym e) l))
+                  let fewer = room P s.log n t xs i.fits.some at_node (is_free s sh) (inv.queue n) (inv.queue_apart n) in
+                  let most = i.fits.few in
+                  let w = length-map i.waits items in
+                  let y = law.few_nodes in
+                  let joins : joined 8 xs t ≡ xs ++ (t ∷ []) = cond-true _ _ _ (lt-ltb (length xs) 8 (omega arith)) in
+                  ap (λ k. get_or (set (lines i) n here) k []) q
+                  ∙ get_or-set_same (lines i) n here [] (omega arith)
+                  ∙ ap (λ ys. joined 8 ys t) (sh.queued n hn)
+                  ∙ joins
+                  ∙ sym (cond-true _ _ _ (eq-eqb (t / P.tickets) n at_node))
+                  ∙ ap (λ k. waiting P.tickets k (offered t p ∷ s.log)) (sym q)
               go (inr q) =
-                  let e : get_or j.waits m no_waits ≡ get_or i.waits m no_waits = ap (λ ys. get_or ys m no_waits) a.waits ∙ get_or-set_other i.waits n m a.line no_waits q in
-                  let v : waiting P.tickets m (offered t p ∷ s.log) ≡ waiting P.tickets m s.log =
-                  cond-false _ _ _ (ne_eqb (t / P.tickets) m (λ x. q (sym x ∙ at_node))) in
-                  subst (λ (ys : List ℕ). Lined (get_or j.waits m no_waits) ys) (sym v) (subst (λ (x : Waits). Lined x (waiting P.tickets m s.log)) (sym e) (sh.queued m h))
+                  get_or-set_other (lines i) n m here [] q
+                  ∙ sh.queued m h
+                  ∙ sym (cond-false _ _ _ (ne_eqb (t / P.tickets) m (λ x. q (sym x ∙ at_node))))
 
           pub grants : Works F i j (offer n o d ws) (offering (granted tt))
           grants =

@@ -1,5 +1,5 @@
 -- The loop over the nodes, and the whole cycle.
-use Rattle.std.proofs.Common.{◌≡◌, ℕ, ◌+◌, ◌-◌, ◌*◌, ◌<◌, ◌≤◌, cond, leb, List, [], ◌++◌, length, get_or, None, Option, sym, refl, ap, ◌∙◌, subst, subst₂, add-zero, add-mul, one-mul, arith}
+use Rattle.std.proofs.Common.{◌≡◌, ℕ, ◌+◌, ◌-◌, ◌*◌, ◌<◌, ◌≤◌, cond, leb, List, [], ◌++◌, length, get_or, map, None, Option, sym, refl, ap, ◌∙◌, subst, subst₂, add-zero, add-mul, one-mul, arith}
 use Rattle.std.proofs.lemmas.Bool.{cond-true, cond-false, le-leb, lt-leb, lt-ltb, le-ltb}
 use Rattle.fabric.specs.declared.parts.Port.{Port}
 use Rattle.fabric.specs.declared.parts.Slot.{Slot}
@@ -10,6 +10,7 @@ use Rattle.fabric.specs.Verdicts.{Verdict, granting}
 use Rattle.fabric.specs.Verdicts.Verdict.{granted, refused}
 use Rattle.fabric.proofs.Following.{far_exists}
 use Rattle.line.specs.Queues.{Queue}
+use Rattle.batch.specs.Items.{items}
 use Rattle.bounds.specs.declared.settings.Settings.{Settings}
 use Rattle.bounds.specs.SetUp.{all_tickets}
 use Rattle.clock.specs.Draws.{register}
@@ -20,7 +21,6 @@ use Rattle.network.specs.Runs.Call.{cycle}
 use Rattle.network.specs.Runs.Outcome.{cycling}
 use Rattle.network.specs.Computed.{leaving, arriving, done, cycled, decided}
 use Rattle.calls.specs.declared.ticket.Ticket.{Ticket}
-use Rattle.calls.specs.declared.waits.Waits.{Waits}
 use Rattle.calls.specs.declared.tables.Tables.{Tables}
 use Rattle.calls.specs.Records.{Advances}
 use Rattle.calls.specs.Steps.{far_place}
@@ -126,8 +126,8 @@ module _ (F : Fabric) (i : Tables) where
                   cycles = a.cycles ∙ ap (λ x. x + 1) b.cycles;
                   drawn = a.register ∙ m.drawn ∙ ap (register P.seed) turns ∙ ap (λ (Q : Settings). register Q.seed ((s.cycles + 1) * N)) (sym e);
                   slots = λ x p h. ap (λ xs. slot_of xs x p) a.slots ∙ all_arrived law s arrived (λ y t l. m.sent y t l) x p h;
-                  records = subst₂ (λ (Q : Settings) (ts : List Ticket). Records (all_tickets F.plan Q) ts (done F P s N ++ s.log)) (sym a.settings) (sym a.tickets) b.records;
-                  queued = subst₂ (λ (Q : Settings) (ws : List Waits). Queued N Q.tickets ws (done F P s N ++ s.log)) (sym a.settings) (sym a.waits) b.queued;
+                  records = subst₂ (λ (Q : Settings) (ts : List (Option Ticket)). Records (all_tickets F.plan Q) ts (done F P s N ++ s.log)) (sym a.settings) (sym a.tickets) b.records;
+                  queued = subst₂ (λ (Q : Settings) (ws : List (List ℕ)). Queued N Q.tickets ws (done F P s N ++ s.log)) (sym a.settings) (sym (ap (map items) a.waits)) b.queued;
                 } in
                 record {
                   exact =

@@ -1,5 +1,5 @@
 -- A network that has just been set up.
-use Rattle.std.proofs.Common.{◌≡◌, ℕ, ◌+◌, ◌*◌, ◌<◌, ◌≤◌, ◌||◌, eqb, ltb, [], get_or, None, sym, refl, ap, ◌∙◌, subst, mul-le-mul_right, mul-le-mul_left, zero-mul, arith}
+use Rattle.std.proofs.Common.{◌≡◌, ℕ, ◌+◌, ◌*◌, ◌<◌, ◌≤◌, ◌||◌, eqb, ltb, [], get_or, None, Option, sym, refl, ap, ◌∙◌, subst, mul-le-mul_right, mul-le-mul_left, zero-mul, arith}
 use Rattle.std.proofs.lemmas.List.{get_or-replicate}
 use Rattle.std.proofs.lemmas.Bool.{cond-false, or_from, or_parts, le-ltb, ltb-false}
 use Rattle.fabric.specs.declared.parts.Port.{Port}
@@ -17,10 +17,9 @@ use Rattle.network.specs.Runs.Leads.{set_up}
 use Rattle.network.proofs.Running.{peel}
 use Rattle.calls.specs.declared.tables.Tables.{Tables}
 use Rattle.calls.specs.declared.ticket.Ticket.{Ticket}
-use Rattle.calls.specs.declared.waits.Waits.{Waits}
 use Rattle.calls.specs.Fits.{Fits}
-use Rattle.calls.specs.Records.{blank, nobody, no_ticket, no_waits, Starts}
-use Rattle.calls.specs.Follow.{Recorded, Lined, Follows, Begins, slot_of}
+use Rattle.calls.specs.Records.{Starts}
+use Rattle.calls.specs.Follow.{Entry, Follows, Begins, slot_of}
 use Rattle.calls.proofs.Promising.{whole}
 
 pub place_below : (p : Port) → place_of p < 4
@@ -35,17 +34,9 @@ ticket_below F law P h =
     let b = law.few_nodes in
     omega arith
 
-blank_recorded : (t : ℕ) → Recorded blank t []
-blank_recorded t =
-    record {
-      opened = refl;
-      destination = refl;
-      size = refl;
-      sent = refl;
-      words = λ k h. get_or-replicate 4 k 0 0 h;
-      short = omega arith;
-      received = λ k h. get_or-replicate 4 k None None h;
-    }
+-- no ticket is taken
+all_free : (t : ℕ) → Entry None t []
+all_free t = record { opened = refl; recorded = λ r e. cc }
 
 -- tables that start follow the empty run
 begin : (F : Fabric) → Lawful F.plan → (i : Tables) (P : Settings) → Starts i P → set_up_verdict F.plan P ≡ granted tt → Follows F i [] fresh
@@ -61,13 +52,12 @@ begin F law i P x ok =
             let b = law.few_nodes in
             ap (λ xs. slot_of xs n p) x.slots ∙ get_or-replicate 256 (4 * n + place_of p) None None (omega arith);
         records = λ t h.
-            let a = ticket_below F law i.settings i.few in
-            let e : get_or i.tickets t no_ticket ≡ blank = ap (λ xs. get_or xs t no_ticket) x.tickets ∙ get_or-replicate 512 t blank no_ticket (omega arith) in
-            subst (λ (r : Ticket). Recorded r t []) (sym e) (blank_recorded t);
+            let a = ticket_below F law i.settings i.fits.few in
+            let e : get_or i.tickets t None ≡ None = ap (λ xs. get_or xs t None) x.tickets ∙ get_or-replicate 512 t None None (omega arith) in
+            subst (λ (o : Option Ticket). Entry o t []) (sym e) (all_free t);
         queued = λ n h.
             let b = law.few_nodes in
-            let e : get_or i.waits n no_waits ≡ nobody = ap (λ xs. get_or xs n no_waits) x.waits ∙ get_or-replicate 64 n nobody no_waits (omega arith) in
-            subst (λ (r : Waits). Lined r []) (sym e) (record { room = omega arith; count = refl; line = refl });
+            ap (λ xs. get_or xs n []) x.waits ∙ get_or-replicate 64 n [] [] (omega arith);
       };
     }
 

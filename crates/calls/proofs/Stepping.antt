@@ -1,7 +1,7 @@
 -- The steps of a node's work on four places.
-use Rattle.std.proofs.Common.{◌≡◌, ℕ, ◌+◌, ◌*◌, ◌<◌, ◌≤◌, true, false, ◌⊎◌, List, length, get_or, set, is_some, Some, None, Option, sym, refl, ap, ◌∙◌, subst, inl, inr, add-one, arith}
+use Rattle.std.proofs.Common.{◌≡◌, ℕ, ◌+◌, ◌*◌, ◌<◌, ◌≤◌, ◌⊎◌, List, length, get_or, set, None, Option, sym, refl, ap, ◌∙◌, subst, inl, inr, add-one, arith}
 use Rattle.std.proofs.lemmas.List.{get_or-set_same, get_or-set_other}
-use Rattle.std.proofs.lemmas.Bool.{cases_eq, both_ways}
+use Rattle.std.proofs.lemmas.Bool.{cases_eq}
 use Rattle.fabric.specs.declared.parts.Port.{Port}
 use Rattle.fabric.specs.declared.parts.Port.TheVariants.{N, E, S, W}
 use Rattle.fabric.specs.declared.parts.Slot.{Slot}
@@ -10,7 +10,7 @@ use Rattle.fabric.specs.Layouts.{Plan, Lawful}
 use Rattle.fabric.specs.Ports.{place_of}
 use Rattle.switch.specs.Switches.{at}
 use Rattle.network.specs.Runs.{port_of}
-use Rattle.network.specs.Computed.{due, better, best, gap, or_else, if_empty}
+use Rattle.network.specs.Computed.{due, better, best}
 use Rattle.calls.specs.Steps.{far_place, best_upto, Spread, SpreadUpto}
 use Rattle.calls.proofs.Looking.{place_of_port}
 use Rattle.calls.proofs.Setting.{place_below}
@@ -32,27 +32,6 @@ pub best_more : (g n k : ℕ) (xs : List (Option Flit)) → k < 4 →
 best_more g n k xs h =
     ap (λ o. better g (best_upto g (λ p. due n (at xs p)) k) (port_of k) (due n o)) (sym (at_port xs k h))
     ∙ ap (best_upto g (λ p. due n (at xs p))) (sym (add-one k))
-
--- an empty place, and one that is not
-empty : (o : Option Flit) (p : Port) → o ≡ None → if_empty o p ≡ Some p
-empty o p e = ap (λ x. if_empty x p) e
-
-full : (o : Option Flit) (p : Port) → (o ≡ None → ⊥) → if_empty o p ≡ None
-full None p h = absurd (h refl)
-full (Some f) p h = refl
-
-first_of : {a b c d w x y z : Option Port} → a ≡ w → b ≡ x → c ≡ y → d ≡ z → or_else (or_else (or_else a b) c) d ≡ or_else (or_else (or_else w x) y) z
-first_of e f g h i = or_else (or_else (or_else (e i) (f i)) (g i)) (h i)
-
-pub gap_found : (xs : List (Option Flit)) (k : ℕ) → k < 4 → ((j : ℕ) → j < k → get_or xs j None ≡ None → ⊥) → get_or xs k None ≡ None → gap (at xs) ≡ Some (port_of k)
-gap_found xs ℕ.zero h b e = first_of (empty _ N e) refl refl refl
-gap_found xs (ℕ.suc ℕ.zero) h b e = first_of (full _ N (b 0 (omega arith))) (empty _ E e) refl refl
-gap_found xs (ℕ.suc (ℕ.suc ℕ.zero)) h b e = first_of (full _ N (b 0 (omega arith))) (full _ E (b 1 (omega arith))) (empty _ S e) refl
-gap_found xs (ℕ.suc (ℕ.suc (ℕ.suc ℕ.zero))) h b e = first_of (full _ N (b 0 (omega arith))) (full _ E (b 1 (omega arith))) (full _ S (b 2 (omega arith))) (empty _ W e)
-gap_found xs (ℕ.suc (ℕ.suc (ℕ.suc (ℕ.suc k)))) h b e = absurd (omega arith)
-
-pub no_gap : (xs : List (Option Flit)) (k : ℕ) → 4 ≤ k → ((j : ℕ) → j < k → get_or xs j None ≡ None → ⊥) → gap (at xs) ≡ None
-no_gap xs k h b = first_of (full _ N (b 0 (omega arith))) (full _ E (b 1 (omega arith))) (full _ S (b 2 (omega arith))) (full _ W (b 3 (omega arith)))
 
 -- no two ports lead to the same place
 place_same : (p q : Port) → place_of p ≡ place_of q → p ≡ q
@@ -105,10 +84,6 @@ module _ (p : Plan) (law : Lawful p) (n : ℕ) (hn : n < p.nodes) (leaving befor
         sent = λ q. u.sent q (let b = place_below q in omega arith);
         rest = λ j b. u.rest j (λ q c. b q);
       }
-
-pub none_since : (o : Option Flit) → is_some o ≡ false → o ≡ None
-none_since None e = refl
-none_since (Some f) e = absurd (both_ways true e refl)
 
 pub best_step : (g n k : ℕ) (xs : List (Option Flit)) (found r : Option (Port × Flit)) (p : Port) (o : Option Flit) → k < 4 →
     r ≡ better g found p o → found ≡ best_upto g (λ q. due n (at xs q)) k → p ≡ port_of k → o ≡ due n (get_or xs k None) → r ≡ best_upto g (λ q. due n (at xs q)) (k + 1)

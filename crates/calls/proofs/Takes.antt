@@ -1,7 +1,7 @@
 -- A node takes a flit off: the tables then show the log with that.
-use Rattle.std.proofs.Common.{◌≡◌, ℕ, ◌<◌, cond, ◌&&◌, eqb, List, ◌∷◌, ◌++◌, get_or, set, Some, None, Option, sym, refl, ap, ◌∙◌, subst, arith}
+use Rattle.std.proofs.Common.{◌≡◌, ℕ, ◌<◌, cond, ◌&&◌, eqb, ◌⊎◌, List, ◌∷◌, ◌++◌, get_or, map, set, Some, None, Option, sym, refl, ap, ◌∙◌, subst, inl, inr, arith}
 use mathlib.Core.Path.{fun_ext}
-use Rattle.std.proofs.lemmas.Bool.{eq-eqb, ne_eqb, cond-false, and_left}
+use Rattle.std.proofs.lemmas.Bool.{cases_eq, eq-eqb, ne_eqb, cond-false, and_left}
 use Rattle.fabric.specs.declared.parts.Port.{Port}
 use Rattle.fabric.specs.declared.parts.Port.TheVariants.{N, E, S, W}
 use Rattle.fabric.specs.declared.parts.Flit.{Flit}
@@ -9,6 +9,7 @@ use Rattle.fabric.specs.Layouts.{Lawful}
 use Rattle.fabric.specs.Ports.{place_of}
 use Rattle.switch.specs.Switches.{at}
 use Rattle.line.specs.Queues.{Queue, put}
+use Rattle.batch.specs.Items.{items}
 use Rattle.bounds.specs.declared.settings.Settings.{Settings}
 use Rattle.bounds.specs.SetUp.{all_tickets}
 use Rattle.network.specs.declared.event.Event.{Event}
@@ -21,14 +22,12 @@ use Rattle.network.specs.Computed.{due, best, same_port, without, taken, left}
 use Rattle.network.proofs.Invariant.{Inv, Sits, Opened}
 use Rattle.network.proofs.Nodes.{taken_here}
 use Rattle.calls.specs.declared.ticket.Ticket.{Ticket}
-use Rattle.calls.specs.declared.waits.Waits.{Waits}
 use Rattle.calls.specs.declared.tables.Tables.{Tables}
-use Rattle.calls.specs.Records.{Keeps, Receives, TakesIn}
+use Rattle.calls.specs.Records.{lines, Keeps, Receives, TakesIn}
 use Rattle.calls.specs.Telling.{event_of}
-use Rattle.calls.specs.Follow.{slot_of, Recorded, Records, Queued}
+use Rattle.calls.specs.Follow.{slot_of, Recorded, Entry, Records, Queued}
 use Rattle.calls.specs.Midway.{Reached, Between, Took}
-use Rattle.calls.proofs.Setting.{ticket_below}
-use Rattle.calls.proofs.Showing.{like, change, invariant}
+use Rattle.calls.proofs.Showing.{like, change, entry_more, entry_none, get_or_some, invariant}
 
 pub at_ordered : (here : Port → Option Flit) (p : Port) → at (in_slot_order here) p ≡ here p
 at_ordered here N = refl
@@ -44,13 +43,13 @@ set_ordered here W o = refl
 
 -- the tables after nothing but tickets and queues changed
 pub between : (F : Fabric) (s : State) (l m : Log) (i j : Tables) → Keeps i j → Between F s l i → Records (all_tickets F.plan i.settings) j.tickets m →
-    Queued F.plan.nodes i.settings.tickets j.waits m → Between F s m j
+    Queued F.plan.nodes i.settings.tickets (lines j) m → Between F s m j
 between F s l m i j k b r q =
     record {
       cycles = k.cycles ∙ b.cycles;
       slots = λ n p h. ap (λ xs. slot_of xs n p) k.slots ∙ b.slots n p h;
       records = subst (λ (P : Settings). Records (all_tickets F.plan P) j.tickets m) (sym k.settings) r;
-      queued = subst (λ (P : Settings). Queued F.plan.nodes P.tickets j.waits m) (sym k.settings) q;
+      queued = subst (λ (P : Settings). Queued F.plan.nodes P.tickets (lines j) m) (sym k.settings) q;
     }
 
 module _ (f : Flit) (n c : ℕ) (l : Log) where
@@ -58,20 +57,18 @@ module _ (f : Flit) (n c : ℕ) (l : Log) where
   off_own : (r q : Ticket) → f.number < 4 → Receives r q f.number f.word → Recorded r f.ticket l → Recorded q f.ticket (off f n c ∷ l)
   off_own r q h x y =
       record {
-        opened = x.busy ∙ y.opened;
         destination = x.destination ∙ y.destination;
         size = x.size ∙ y.size;
         sent = x.sent ∙ y.sent;
         words = λ k z. ap (λ xs. get_or xs k 0) x.words ∙ y.words k z;
-        short = let a = x.size in let b = y.short in omega arith;
         received = λ k z.
             x.received k z h
             ∙ ap (λ o. cond (eqb k f.number) (Some f.word) o) (y.received k z)
             ∙ ap (λ b. cond (b && eqb k f.number) (Some f.word) (received f.ticket k l)) (sym (eq-eqb f.ticket f.ticket refl));
       }
 
-  off_other : (u : ℕ) (r : Ticket) → (u ≡ f.ticket → ⊥) → Recorded r u l → Recorded r u (off f n c ∷ l)
-  off_other u r h = like r u l (off f n c ∷ l) refl refl refl (λ k. cond-false _ _ _ (and_left _ _ (ne_eqb u f.ticket h)))
+  off_other : (u : ℕ) (o : Option Ticket) → (u ≡ f.ticket → ⊥) → Entry o u l → Entry o u (off f n c ∷ l)
+  off_other u o h = like o u l (off f n c ∷ l) refl refl refl (λ k. cond-false _ _ _ (and_left _ _ (ne_eqb u f.ticket h)))
 
 module _ (F : Fabric) (i : Tables) (s : State) (l : Log) (n g : ℕ) (law : Lawful F.plan) (led : Reached F i.settings s) (h : n < F.plan.nodes)
     (gold : g ≡ golden_in F i.settings s.cycles) (b : Between F s l i) where
@@ -97,7 +94,7 @@ module _ (F : Fabric) (i : Tables) (s : State) (l : Log) (n g : ℕ) (law : Lawf
   took_none j q k ti wa e =
       record {
         shows = subst (λ (o : Option (Port × Flit)). Between F s (off_at s.cycles n o ++ l) j) (sym e)
-            (between F s l l i j k b (subst (λ (xs : List Ticket). Records (all_tickets F.plan P) xs l) (sym ti) b.records) (subst (λ (xs : List Waits). Queued F.plan.nodes P.tickets xs l) (sym wa) b.queued));
+            (between F s l l i j k b (subst (λ (xs : List (Option Ticket)). Records (all_tickets F.plan P) xs l) (sym ti) b.records) (subst (λ (xs : List (List ℕ)). Queued F.plan.nodes P.tickets xs l) (sym (ap (map items) wa)) b.queued));
         gives = same_places ∙ ap (λ (o : Option (Port × Flit)). in_slot_order (without o (s.slot n))) (sym e);
         line = ap (λ (o : Option (Port × Flit)). put_all q (told (off_at s.cycles n o))) (sym e);
         count = ap (λ (o : Option (Port × Flit)). count_off (off_at s.cycles n o)) (sym e);
@@ -111,10 +108,26 @@ module _ (F : Fabric) (i : Tables) (s : State) (l : Log) (n g : ℕ) (law : Lawf
     opened = inv.opens f.ticket sits.open_ticket
 
     pub small : f.number < 4
-    small = let a = sits.in_size in let c = opened.short in let d = i.short in omega arith
+    small = let a = sits.in_size in let c = opened.short in let d = i.fits.short in omega arith
 
-    pub known : f.ticket < 512
-    known = let a = opened.ticket in let c = ticket_below F law P i.few in omega arith
+    -- the tables' records, whether the flit's ticket has one or not
+    records : (j : Tables) → TakesIn i j f → (o : Option Ticket) → get_or i.tickets f.ticket None ≡ o → Records (all_tickets F.plan P) j.tickets (off f n s.cycles ∷ l)
+    records j t None e =
+        subst (λ (xs : List (Option Ticket)). Records (all_tickets F.plan P) xs (off f n s.cycles ∷ l)) (sym (t.none e)) (λ u g. go u g (cases_eq u f.ticket))
+      where
+        go : (u : ℕ) → u < all_tickets F.plan P → (u ≡ f.ticket) ⊎ (u ≡ f.ticket → ⊥) → Entry (get_or i.tickets u None) u (off f n s.cycles ∷ l)
+        go u g (inl q) =
+            let x : get_or i.tickets u None ≡ None = ap (λ v. get_or i.tickets v None) q ∙ e in
+            subst (λ (o : Option Ticket). Entry o u (off f n s.cycles ∷ l)) (sym x)
+            (entry_none u l (off f n s.cycles ∷ l) refl (subst (λ (o : Option Ticket). Entry o u l) x (b.records u g)))
+        go u g (inr d) = off_other f n s.cycles l u _ d (b.records u g)
+    records j t (Some r) e =
+        let x = t.some r e in
+        let within = get_or_some i.tickets f.ticket r e in
+        subst (λ (xs : List (Option Ticket)). Records (all_tickets F.plan P) xs (off f n s.cycles ∷ l)) (sym x.2)
+        (change (all_tickets F.plan P) f.ticket i.tickets (Some x.0) l (off f n s.cycles ∷ l) within b.records
+        (entry_more r x.0 f.ticket l (off f n s.cycles ∷ l) refl (off_own f n s.cycles l r x.0 small x.1) (subst (λ (o : Option Ticket). Entry o f.ticket l) e (b.records f.ticket opened.ticket)))
+        (λ u d. off_other f n s.cycles l u _ d))
 
     pub took_some : (j : Tables) (q r : Queue Event) (places : List (Option Flit)) (y : ℕ) → TakesIn i j f →
         places ≡ set (in_slot_order (slot_of i.slots n)) (place_of p) None →
@@ -123,11 +136,8 @@ module _ (F : Fabric) (i : Tables) (s : State) (l : Log) (n g : ℕ) (law : Lawf
     took_some j q r places y t pl ev li =
         record {
           shows = subst (λ (o : Option (Port × Flit)). Between F s (off_at s.cycles n o ++ l) j) (sym e)
-              (between F s l (off f n s.cycles ∷ l) i j t.keeps b
-              (subst (λ (xs : List Ticket). Records (all_tickets F.plan P) xs (off f n s.cycles ∷ l)) (sym (t.tickets known))
-              (change (all_tickets F.plan P) f.ticket i.tickets t.its l (off f n s.cycles ∷ l) (t.within known) b.records
-              (off_own f n s.cycles l _ t.its small (t.receives known)) (λ u d. off_other f n s.cycles l u _ d)))
-              (subst (λ (xs : List Waits). Queued F.plan.nodes P.tickets xs l) (sym t.waits) b.queued));
+              (between F s l (off f n s.cycles ∷ l) i j t.keeps b (records j t (get_or i.tickets f.ticket None) refl)
+              (subst (λ (xs : List (List ℕ)). Queued F.plan.nodes P.tickets xs l) (sym (ap (map items) t.waits)) b.queued));
           gives = pl ∙ ap (λ xs. set xs (place_of p) None) same_places ∙ set_ordered (s.slot n) p None ∙ ap (λ (o : Option (Port × Flit)). in_slot_order (without o (s.slot n))) (sym e);
           line =
               li ∙ ap (λ c. put q (event_of c Out f n)) (ev ∙ b.cycles)

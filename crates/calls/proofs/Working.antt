@@ -1,5 +1,5 @@
 -- One node's work in a cycle.
-use Rattle.std.proofs.Common.{◌≡◌, ℕ, suc, ◌+◌, ◌*◌, ◌<◌, ◌≤◌, Bool, ◌⊎◌, List, [], ◌∷◌, ◌++◌, length, get_or, Some, None, Option, sym, refl, ap, ◌∙◌, subst, subst₂, inl, inr, append_assoc, add-zero, add-one, arith}
+use Rattle.std.proofs.Common.{◌≡◌, ℕ, suc, ◌+◌, ◌*◌, ◌<◌, ◌≤◌, Bool, ◌⊎◌, List, [], ◌∷◌, ◌++◌, length, get_or, map, Some, None, Option, sym, refl, ap, ◌∙◌, subst, subst₂, inl, inr, append_assoc, add-zero, add-one, arith}
 use mathlib.Core.Path.{fun_ext}
 use Rattle.std.proofs.lemmas.List.{append-nil, length-append}
 use Rattle.std.proofs.lemmas.Bool.{cases_eq}
@@ -8,19 +8,19 @@ use Rattle.fabric.specs.declared.parts.Flit.{Flit}
 use Rattle.fabric.specs.Layouts.{Lawful}
 use Rattle.switch.specs.Switches.{Handing, at, turned}
 use Rattle.line.specs.Queues.{Queue}
+use Rattle.batch.specs.Items.{items}
 use Rattle.bounds.specs.declared.settings.Settings.{Settings}
 use Rattle.bounds.specs.SetUp.{all_tickets}
 use Rattle.clock.specs.Draws.{register, shifted, draw_bits}
 use Rattle.network.specs.declared.event.Event.{Event}
-use Rattle.network.specs.Log.{Log}
+use Rattle.network.specs.Log.{Log, free}
 use Rattle.network.specs.Log.Happening.{offered, entered, off, collected}
 use Rattle.network.specs.Cycle.{Fabric, State, golden_in, wish_of, off_at, entered_at, in_slot_order}
 use Rattle.network.specs.Runs.{put_all, told, count_off}
 use Rattle.network.specs.Computed.{taken, left, entering, ready, handing, leaving, done}
 use Rattle.network.proofs.Invariant.{Inv}
-use Rattle.network.proofs.Cycling.{off_packet, off_waiting, off_sent, keeps_packet, keeps_waiting, keeps_sent, grown, half_log, grown_more}
+use Rattle.network.proofs.Cycling.{off_packet, off_waiting, off_sent, keeps_packet, keeps_waiting, keeps_sent, grown, half_log, grown_none, grown_more}
 use Rattle.calls.specs.declared.ticket.Ticket.{Ticket}
-use Rattle.calls.specs.declared.waits.Waits.{Waits}
 use Rattle.calls.specs.declared.tables.Tables.{Tables}
 use Rattle.calls.specs.Records.{Draws}
 use Rattle.calls.specs.Steps.{wished, far_place, Spread}
@@ -56,8 +56,8 @@ between_same F s l i j d b =
     record {
       cycles = d.cycles ∙ b.cycles;
       slots = λ n p h. ap (λ xs. slot_of xs n p) d.slots ∙ b.slots n p h;
-      records = subst₂ (λ (P : Settings) (ts : List Ticket). Records (all_tickets F.plan P) ts l) (sym d.settings) (sym d.tickets) b.records;
-      queued = subst₂ (λ (P : Settings) (ws : List Waits). Queued F.plan.nodes P.tickets ws l) (sym d.settings) (sym d.waits) b.queued;
+      records = subst₂ (λ (P : Settings) (ts : List (Option Ticket)). Records (all_tickets F.plan P) ts l) (sym d.settings) (sym d.tickets) b.records;
+      queued = subst₂ (λ (P : Settings) (ws : List (List ℕ)). Queued F.plan.nodes P.tickets ws l) (sym d.settings) (sym (ap (map items) d.waits)) b.queued;
     }
 
 module _ (F : Fabric) (P : Settings) (s : State) where
@@ -106,9 +106,24 @@ module _ (F : Fabric) (P : Settings) (s : State) where
       let d = put_none n (entering F P s n) in
       omega arith
 
+  -- no ticket is taken or freed within a cycle
+  off_free : (t n : ℕ) (o : Option (Port × Flit)) (l : Log) → free t (off_at s.cycles n o ++ l) ≡ free t l
+  off_free t n None l = refl
+  off_free t n (Some b) l = refl
+
+  entered_free : (t n : ℕ) (o : Option (Port × Flit)) (l : Log) → free t (entered_at n o ++ l) ≡ free t l
+  entered_free t n None l = refl
+  entered_free t n (Some b) l = refl
+
+  keeps_free : (n t : ℕ) → free t (grown F P s n) ≡ free t s.log
+  keeps_free ℕ.zero t = ap (free t) (grown_none F P s)
+  keeps_free (ℕ.suc n) t =
+      ap (free t) (grown_more F P s n) ∙ entered_free t n (entering F P s n) (half_log F P s n) ∙ off_free t n (taken F P s n) (grown F P s n) ∙ keeps_free n t
+
   own_log : Inv F P s 0 → (n : ℕ) → Own P s n (half_log F P s n)
   own_log inv n =
       record {
+        taken = λ t. off_free t n (taken F P s n) (grown F P s n) ∙ keeps_free n t;
         line = off_waiting F P s n n (taken F P s n) (grown F P s n) ∙ keeps_waiting F P s n n (omega arith);
         packets = λ t. off_packet F P s t n (taken F P s n) (grown F P s n) ∙ keeps_packet F P s n t;
         flits = λ t e. off_sent F P s t n (taken F P s n) (grown F P s n) ∙ keeps_sent F P s inv n t (omega arith);

@@ -1,5 +1,5 @@
 -- How the tables of the code stand for a state, and what every call promises.
-use Rattle.std.specs.Prelude.{◌≡◌, ℕ, ◌+◌, ◌*◌, ◌<◌, ◌≤◌, Bool, true, false, not, List, [], ◌∷◌, ◌++◌, length, None, Option, slice_index, slice_index_or}
+use Rattle.std.specs.Prelude.{◌≡◌, ℕ, ◌+◌, ◌*◌, ◌<◌, ◌≤◌, Bool, true, false, not, List, [], ◌∷◌, ◌++◌, Some, None, Option, is_some, slice_index, slice_index_or}
 use Rattle.fabric.specs.declared.parts.Port.{Port}
 use Rattle.fabric.specs.declared.parts.Flit.{Flit}
 use Rattle.fabric.specs.Ports.{place_of}
@@ -15,34 +15,31 @@ use Rattle.network.specs.Runs.{Call, Outcome, Serves, Leads, fresh}
 use Rattle.network.specs.Runs.Outcome.{offering, cycling, collecting, looking}
 use Rattle.network.specs.Promises.{Stands, OffOnce, Kept}
 use Rattle.calls.specs.declared.ticket.Ticket.{Ticket}
-use Rattle.calls.specs.declared.waits.Waits.{Waits}
 use Rattle.calls.specs.declared.tables.Tables.{Tables}
-use Rattle.calls.specs.Records.{no_ticket, no_waits, line_of}
+use Rattle.calls.specs.Records.{lines}
 
 abbrev pub slot_of : List (Option Flit) → ℕ → Port → Option Flit
 slot_of xs n p = slice_index_or xs (4 * n + place_of p) None
 
--- the record of a ticket shows what a log says of it
+-- the record of a ticket shows what a log says of its packet
 pub record Recorded (r : Ticket) (t : ℕ) (l : log.Log) : Type 0 where
-  pub opened : r.busy ≡ not (log.free t l)
   pub destination : r.destination ≡ log.aim (log.packet t l)
   pub size : r.size ≡ log.size (log.packet t l)
   pub sent : r.sent ≡ log.sent t l
   pub words : (k : ℕ) → k < 4 → slice_index r.words k ≡ log.word (log.packet t l) k
-  pub short : r.size ≤ 4
   pub received : (k : ℕ) → k < 4 → slice_index_or r.received k None ≡ log.received t k l
 
-abbrev pub Records : ℕ → List Ticket → log.Log → Type 0
-Records G ts l = (t : ℕ) → t < G → Recorded (slice_index_or ts t no_ticket) t l
+-- a ticket that is taken has its record, and a free one has none
+pub record Entry (o : Option Ticket) (t : ℕ) (l : log.Log) : Type 0 where
+  pub opened : is_some o ≡ not (log.free t l)
+  pub recorded : (r : Ticket) → o ≡ Some r → Recorded r t l
 
--- the tickets that wait at a node
-pub record Lined (w : Waits) (ts : List ℕ) : Type 0 where
-  pub room : w.held ≤ 8
-  pub count : w.held ≡ length ts
-  pub line : line_of w ≡ ts
+abbrev pub Records : ℕ → List (Option Ticket) → log.Log → Type 0
+Records G ts l = (t : ℕ) → t < G → Entry (slice_index_or ts t None) t l
 
-abbrev pub Queued : ℕ → ℕ → List Waits → log.Log → Type 0
-Queued N T ws l = (n : ℕ) → n < N → Lined (slice_index_or ws n no_waits) (log.waiting T n l)
+-- the tickets that wait at each node
+abbrev pub Queued : ℕ → ℕ → List (List ℕ) → log.Log → Type 0
+Queued N T ls l = (n : ℕ) → n < N → slice_index_or ls n [] ≡ log.waiting T n l
 
 -- the tables stand for a state
 pub record Shows (F : Fabric) (i : Tables) (s : State) : Type 0 where
@@ -50,7 +47,7 @@ pub record Shows (F : Fabric) (i : Tables) (s : State) : Type 0 where
   pub drawn : i.register ≡ register i.settings.seed (s.cycles * F.plan.nodes)
   pub slots : (n : ℕ) (p : Port) → n < F.plan.nodes → slot_of i.slots n p ≡ s.slot n p
   pub records : Records (all_tickets F.plan i.settings) i.tickets s.log
-  pub queued : Queued F.plan.nodes i.settings.tickets i.waits s.log
+  pub queued : Queued F.plan.nodes i.settings.tickets (lines i) s.log
 
 -- the tables of a network to which a run has led, in the state s
 pub record Follows (F : Fabric) (i : Tables) (run : List Call) (s : State) : Type 0 where

@@ -1,33 +1,19 @@
 -- The record of a ticket, a node's waiting tickets, and how calls change them.
-use Rattle.std.specs.Prelude.{◌≡◌, ℕ, ◌+◌, ◌-◌, ◌<◌, ◌≤◌, Bool, true, false, cond, ◌&&◌, List, [], ◌∷◌, ◌++◌, length, take, drop, replicate, Some, None, Option, ◌==◌, ◌≢◌, slice_index, slice_index_or, slice_set}
+use Rattle.std.specs.Prelude.{◌≡◌, ℕ, ◌+◌, ◌<◌, Bool, true, cond, ◌&&◌, List, [], ◌∷◌, ◌++◌, length, map, drop, replicate, Some, None, Option, ◌==◌, ◌≢◌, slice_index, slice_index_or, slice_set}
 use Rattle.fabric.specs.declared.parts.Flit.{Flit}
+use Rattle.batch.specs.Items.{items, joined}
 use Rattle.bounds.specs.declared.settings.Settings.{Settings}
 use Rattle.clock.specs.Draws.{shifted, draw_bits}
 use Rattle.network.specs.Log.{has, value}
 use Rattle.calls.specs.declared.ticket.Ticket.{Ticket}
-use Rattle.calls.specs.declared.waits.Waits.{Waits}
 use Rattle.calls.specs.declared.tables.Tables.{Tables}
 
-abbrev pub blank : Ticket
-blank = record { busy = false; destination = 0; size = 0; sent = 0; words = replicate 4 0; received = replicate 4 None }
+-- the tickets that wait at each node, the first in front
+abbrev pub lines : Tables → List (List ℕ)
+lines i = map items i.waits
 
-abbrev pub nobody : Waits
-nobody = record { tickets = replicate 8 0; held = 0 }
-
--- what stands for an element past a table's end
-abbrev pub no_ticket : Ticket
-no_ticket = record { busy = false; destination = 0; size = 0; sent = 0; words = []; received = [] }
-
-abbrev pub no_waits : Waits
-no_waits = record { tickets = []; held = 0 }
-
--- who waits, the first in front
-abbrev pub line_of : Waits → List ℕ
-line_of w = take w.held w.tickets
-
-abbrev pub head_of : List ℕ → Option ℕ
-head_of [] = None
-head_of (x ∷ xs) = Some x
+abbrev pub line_at : Tables → ℕ → List ℕ
+line_at i n = slice_index_or (lines i) n []
 
 -- the first m places all hold a word
 abbrev pub all_in : List (Option ℕ) → ℕ → Bool
@@ -39,18 +25,22 @@ abbrev pub values : List (Option ℕ) → ℕ → List ℕ
 values xs ℕ.zero = []
 values xs (ℕ.suc m) = values xs m ++ (value (slice_index_or xs m None) ∷ [])
 
+-- the packet under a ticket, if it is complete and goes to this node
+abbrev pub arrived : Option Ticket → ℕ → Option Ticket
+arrived None n = None
+arrived (Some r) n = cond (all_in r.received r.size && r.destination == n) (Some r) None
+
 -- just set up
 pub record Starts (i : Tables) (P : Settings) : Type 0 where
   pub settings : i.settings ≡ P
   pub cycles : i.cycles ≡ 0
   pub register : i.register ≡ P.seed
   pub slots : i.slots ≡ replicate 256 None
-  pub tickets : i.tickets ≡ replicate 512 blank
-  pub waits : i.waits ≡ replicate 64 nobody
+  pub tickets : i.tickets ≡ replicate 512 None
+  pub waits : lines i ≡ replicate 64 []
 
 -- a packet just accepted
 pub record Packed (r : Ticket) (destination : ℕ) (ws : List ℕ) : Type 0 where
-  pub busy : r.busy ≡ true
   pub goes : r.destination ≡ destination
   pub size : r.size ≡ length ws
   pub sent : r.sent ≡ 0
@@ -69,27 +59,17 @@ pub record Accepts (i j : Tables) (n t d : ℕ) (ws : List ℕ) : Type 0 where
   pub keeps : Keeps i j
   pub its : Ticket
   pub packed : Packed its d ws
-  pub tickets : j.tickets ≡ slice_set i.tickets t its
-  pub line : Waits
-  pub joined : (slice_index_or i.waits n no_waits).held < 8 → (line.held ≡ (slice_index_or i.waits n no_waits).held + 1) × (line_of line ≡ line_of (slice_index_or i.waits n no_waits) ++ t ∷ [])
-  pub waits : j.waits ≡ slice_set i.waits n line
+  pub tickets : j.tickets ≡ slice_set i.tickets t (Some its)
+  pub waits : lines j ≡ slice_set (lines i) n (joined 8 (line_at i n) t)
 
--- a ticket's packet is collected
+-- a ticket whose packet is collected is free
 pub record Frees (i j : Tables) (t : ℕ) : Type 0 where
   pub keeps : Keeps i j
   pub waits : j.waits ≡ i.waits
-  pub its : Ticket
-  pub tickets : j.tickets ≡ slice_set i.tickets t its
-  pub free : its.busy ≡ false
-  pub destination : its.destination ≡ (slice_index_or i.tickets t no_ticket).destination
-  pub size : its.size ≡ (slice_index_or i.tickets t no_ticket).size
-  pub sent : its.sent ≡ (slice_index_or i.tickets t no_ticket).sent
-  pub words : its.words ≡ (slice_index_or i.tickets t no_ticket).words
-  pub received : its.received ≡ (slice_index_or i.tickets t no_ticket).received
+  pub tickets : j.tickets ≡ slice_set i.tickets t None
 
 -- a word is entered in its place
 pub record Receives (r q : Ticket) (k w : ℕ) : Type 0 where
-  pub busy : q.busy ≡ r.busy
   pub destination : q.destination ≡ r.destination
   pub size : q.size ≡ r.size
   pub sent : q.sent ≡ r.sent
@@ -98,7 +78,6 @@ pub record Receives (r q : Ticket) (k w : ℕ) : Type 0 where
 
 -- the next flit is sent
 pub record Sends (r q : Ticket) (t c : ℕ) (o : Option Flit) : Type 0 where
-  pub busy : q.busy ≡ r.busy
   pub destination : q.destination ≡ r.destination
   pub size : q.size ≡ r.size
   pub words : q.words ≡ r.words
@@ -106,32 +85,28 @@ pub record Sends (r q : Ticket) (t c : ℕ) (o : Option Flit) : Type 0 where
   pub sent : r.sent < 4 → q.sent ≡ r.sent + 1
   pub flit : r.sent < 4 → o ≡ Some (record { ticket = t; number = r.sent; destination = r.destination; word = slice_index r.words r.sent; entered = c })
 
--- the word of a flit is entered in the record of its ticket
+-- the word of a flit is entered in the record of its ticket, if that is taken
 pub record TakesIn (i j : Tables) (f : Flit) : Type 0 where
   pub keeps : Keeps i j
   pub waits : j.waits ≡ i.waits
-  pub its : Ticket
-  pub within : f.ticket < 512 → f.ticket < length i.tickets
-  pub tickets : f.ticket < 512 → j.tickets ≡ slice_set i.tickets f.ticket its
-  pub receives : f.ticket < 512 → Receives (slice_index_or i.tickets f.ticket no_ticket) its f.number f.word
+  pub none : slice_index_or i.tickets f.ticket None ≡ None → j.tickets ≡ i.tickets
+  pub some : (r : Ticket) → slice_index_or i.tickets f.ticket None ≡ Some r →
+      (q : Ticket) × Receives r q f.number f.word × (j.tickets ≡ slice_set i.tickets f.ticket (Some q))
 
 -- the next flit of a ticket that waits first at a node; after its last flit the packet waits no more
-pub record LetsGo (i j : Tables) (n t : ℕ) (o : Option Flit) : Type 0 where
+pub record LetsGo (i j : Tables) (n t : ℕ) (r : Ticket) (o : Option Flit) : Type 0 where
   pub its : Ticket
-  pub sends : Sends (slice_index_or i.tickets t no_ticket) its t i.cycles o
-  pub within : t < length i.tickets
-  pub room : n < length i.waits
-  pub tickets : j.tickets ≡ slice_set i.tickets t its
+  pub sends : Sends r its t i.cycles o
+  pub room : n < length (lines i)
+  pub tickets : j.tickets ≡ slice_set i.tickets t (Some its)
   pub stays : (its.sent ≢ its.size) → j.waits ≡ i.waits
-  pub line : its.sent ≡ its.size → Waits
-  pub waits : (e : its.sent ≡ its.size) → j.waits ≡ slice_set i.waits n (line e)
-  pub leaves : (e : its.sent ≡ its.size) → (slice_index_or i.waits n no_waits).held ≤ 8 →
-      ((line e).held ≡ (slice_index_or i.waits n no_waits).held - 1) × (line_of (line e) ≡ drop 1 (line_of (slice_index_or i.waits n no_waits)))
+  pub leaves : its.sent ≡ its.size → lines j ≡ slice_set (lines i) n (drop 1 (line_at i n))
 
 pub record LetsIn (i j : Tables) (n : ℕ) (o : Option Flit) : Type 0 where
   pub keeps : Keeps i j
-  pub none : line_of (slice_index_or i.waits n no_waits) ≡ [] → (o ≡ None) × (j.tickets ≡ i.tickets) × (j.waits ≡ i.waits)
-  pub some : (t : ℕ) (ts : List ℕ) → line_of (slice_index_or i.waits n no_waits) ≡ t ∷ ts → t < 512 → LetsGo i j n t o
+  pub none : line_at i n ≡ [] → (o ≡ None) × (j.tickets ≡ i.tickets) × (j.waits ≡ i.waits)
+  pub some : (t : ℕ) (ts : List ℕ) (r : Ticket) → line_at i n ≡ t ∷ ts → slice_index_or i.tickets t None ≡ Some r →
+      LetsGo i j n t r o
 
 -- the draw register is shifted
 pub record Draws (i j : Tables) (ds : List Bool) : Type 0 where

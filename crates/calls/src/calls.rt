@@ -12,7 +12,7 @@ ghost use Rattle.calls.specs.Midway.{NodeWorks};
 ghost use Rattle.calls.specs.Networks.{fabric_of, SameParts};
 
 use super::steps::{spread, wishes};
-use super::tables::{EMPTY, SLOTS, Tables};
+use super::tables::{SLOTS, Tables};
 use bounds::settings::Settings;
 use fabric::layout::Layout;
 use fabric::parts::Flit;
@@ -97,7 +97,7 @@ impl<L: Layout, S: Switch> Network<L, S> {
             return Err(Refusal::Words);
         }
         let ticket = node * self.inner.settings.tickets + own;
-        if self.inner.tickets[ticket].busy {
+        if self.inner.tickets[ticket].is_some() {
             return Err(Refusal::NotFree);
         }
         self.inner.accept(node, ticket, destination, words);
@@ -120,10 +120,10 @@ impl<L: Layout, S: Switch> Network<L, S> {
             return Err(Refusal::Missing);
         }
         let ticket = sender * self.inner.settings.tickets + own;
-        let packet = self.inner.tickets[ticket];
-        if !packet.complete() || usize::from(packet.destination) != receiver {
-            return Err(Refusal::NotComplete);
-        }
+        let packet = self
+            .inner
+            .arrived(ticket, receiver)
+            .ok_or(Refusal::NotComplete)?;
         let size = usize::from(packet.size);
         if memory.len() < size {
             return Err(Refusal::Memory);
@@ -179,7 +179,7 @@ impl<L: Layout, S: Switch> Network<L, S> {
             return Err(Refusal::Room);
         }
         let golden = self.inner.golden(nodes);
-        let mut arriving = [EMPTY; SLOTS];
+        let mut arriving = [None; SLOTS];
         let mut off = 0;
         for node in 0..nodes {
             off += self.work(node, golden, line, &mut arriving);

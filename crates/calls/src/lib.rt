@@ -6,6 +6,5 @@ mod steps;
 mod tables;
 mod telling;
 mod ticket;
-mod waits;
 
 pub use calls::Network;

@@ -27,10 +27,7 @@ pub(crate) fn port(k: usize) -> Port
 fn due(node: usize, place: Option<Flit>) -> Option<Flit>
     ensures { result ≡ is_due node place }
 {
-    match place {
-        Some(flit) if usize::from(flit.destination) == node => Some(flit),
-        _ => None,
-    }
+    place.filter(|flit| usize::from(flit.destination) == node)
 }
 
 // A golden flit goes before an ordinary one, and before a golden one of a higher number.
@@ -49,17 +46,11 @@ fn better(
 ) -> Option<(Port, Flit)>
     ensures { result ≡ is_better golden found at_port place }
 {
-    match (found, place) {
-        (None, None) => None,
-        (None, Some(flit)) => Some((at_port, flit)),
-        (Some(best), None) => Some(best),
-        (Some(best), Some(flit)) => {
-            if ahead(golden, flit, best.1) {
-                Some((at_port, flit))
-            } else {
-                Some(best)
-            }
+    match place {
+        Some(flit) if found.is_none_or(|(_, best)| ahead(golden, flit, best)) => {
+            Some((at_port, flit))
         }
+        _ => found,
     }
 }
 
@@ -78,34 +69,25 @@ pub(crate) fn best(golden: usize, node: usize, places: [Option<Flit>; 4]) -> Opt
 pub(crate) fn gap(places: [Option<Flit>; 4]) -> Option<Port>
     ensures { result ≡ is_gap (at places) }
 {
-    for (k, place) in places.iter().enumerate() {
-        if place.is_none() {
-            return Some(port(k));
-        }
-    }
-    None
+    places.iter().position(|place| place.is_none()).map(port)
 }
 
 // The places with one of them changed.
 pub(crate) fn with(
-    places: [Option<Flit>; 4],
+    mut places: [Option<Flit>; 4],
     at_port: Port,
     held: Option<Flit>,
 ) -> [Option<Flit>; 4]
     ensures { result ≡ slice_set places (place_of at_port) held }
 {
-    let mut changed = places;
-    changed[at_port.index()] = held;
-    changed
+    places[at_port.index()] = held;
+    places
 }
 
 fn wish<L: Layout>(layout: &L, node: usize, place: Option<Flit>) -> Option<Port>
     ensures { result ≡ wished (L.plan layout.now) node place }
 {
-    match place {
-        Some(flit) => layout.wish(node, usize::from(flit.destination)),
-        None => None,
-    }
+    place.and_then(|flit| layout.wish(node, usize::from(flit.destination)))
 }
 
 pub(crate) fn wishes<L: Layout>(
@@ -115,12 +97,7 @@ pub(crate) fn wishes<L: Layout>(
 ) -> [Option<Port>; 4]
     ensures { result ≡ in_slot_order (λ p. wished (L.plan layout.now) node (at places p)) }
 {
-    [
-        wish(layout, node, places[0]),
-        wish(layout, node, places[1]),
-        wish(layout, node, places[2]),
-        wish(layout, node, places[3]),
-    ]
+    places.map(|place| wish(layout, node, place))
 }
 
 // The place in the table of slots that a node's port leads to.

@@ -1,8 +1,8 @@
 // The tables of the largest network.
-ghost use Rattle.std.specs.Prelude.{◌<◌, ◌≤◌};
+ghost use Rattle.calls.specs.Fits.{Fits};
 
 use super::ticket::Ticket;
-use super::waits::Waits;
+use batch::Batch;
 use bounds::settings::Settings;
 use fabric::parts::Flit;
 
@@ -15,7 +15,8 @@ pub(crate) const SLOTS: usize = 256;
 
 pub(crate) const TICKETS: usize = 512;
 
-pub(crate) const EMPTY: Option<Flit> = None;
+// tickets of one node, at most
+pub(crate) const OWN: usize = 8;
 
 #[derive(Drop)]
 pub(crate) struct Tables {
@@ -26,13 +27,9 @@ pub(crate) struct Tables {
     pub register: u16,
     // four of each node, in slot order
     pub slots: [Option<Flit>; SLOTS],
-    // as many of each node as the settings say
-    pub tickets: [Ticket; TICKETS],
-    // a queue of each node
-    pub waits: [Waits; NODES],
-    ghost some: { 0 < settings.tickets },
-    ghost few: { settings.tickets ≤ 8 },
-    ghost short: { settings.words ≤ 4 },
-    ghost lasting: { 0 < settings.epoch },
-    ghost ending: { settings.epoch ≤ 4096 },
+    // as many of each node as the settings say; a free one has no record
+    pub tickets: [Option<Ticket>; TICKETS],
+    // of each node those tickets that wait, in the order of their offers
+    pub waits: [Batch<u16, OWN>; NODES],
+    ghost fits: { Fits settings },
 }

@@ -1,14 +1,14 @@
 // What the calls do to the tables.
-ghost use Rattle.std.specs.Prelude.{◌≡◌, ◌*◌, ◌<◌, ◌≤◌, length, None};
+ghost use Rattle.std.specs.Prelude.{◌≡◌, ◌*◌, ◌<◌, ◌≤◌, length, None, slice_index_or};
 ghost use Rattle.clock.specs.Epochs.{golden_ticket};
 ghost use Rattle.network.specs.Cycle.{in_slot_order};
 ghost use Rattle.calls.specs.Fits.{Fits};
-ghost use Rattle.calls.specs.Records.{Starts, Accepts, Frees, TakesIn, LetsIn, Draws, Advances};
+ghost use Rattle.calls.specs.Records.{arrived as has_arrived, Starts, Accepts, Frees, TakesIn, LetsIn, Draws, Advances};
 ghost use Rattle.calls.specs.Follow.{slot_of};
 
-use super::super::ticket::{BLANK, Ticket};
-use super::super::waits::NOBODY;
-use super::{EMPTY, NODES, SLOTS, TICKETS, Tables};
+use super::super::ticket::Ticket;
+use super::{NODES, SLOTS, TICKETS, Tables};
+use batch::Batch;
 use bounds::settings::Settings;
 use clock::draw::shift;
 use clock::epoch::golden;
@@ -24,19 +24,30 @@ impl Tables {
             settings,
             cycles: 0,
             register: settings.seed as u16,
-            slots: [EMPTY; SLOTS],
-            tickets: [BLANK; TICKETS],
-            waits: [NOBODY; NODES],
+            slots: [None; SLOTS],
+            tickets: [None; TICKETS],
+            waits: [Batch::new(0); NODES],
         }
     }
 
-    // Takes over a packet under a free ticket of a node, where it then waits.
+    // Takes over a packet under a free ticket of a node, where it then waits: fewer than all of the node's tickets wait then.
     pub(crate) fn accept(&mut self, node: usize, ticket: usize, destination: usize, words: &[u32])
         requires { (node < 64) × ((ticket < 512) × ((destination < 64) × (length words.now ≤ 4))) }
         ensures { Accepts self.old self.new node ticket destination words.now }
     {
-        self.tickets[ticket] = Ticket::new(destination as u8, words);
-        self.waits[node].put(ticket as u16);
+        self.tickets[ticket] = Some(Ticket::new(destination as u8, words));
+        let mut line = self.waits[node];
+        let _ = line.push(ticket as u16);
+        self.waits[node] = line;
+    }
+
+    // The packet under a ticket, if it is complete and goes to this node.
+    pub(crate) fn arrived(&self, ticket: usize, receiver: usize) -> Option<Ticket>
+        requires { ticket < 512 }
+        ensures { result ≡ has_arrived (slice_index_or self.now.tickets ticket None) receiver }
+    {
+        self.tickets[ticket].filter(|packet| packet.complete()
+            && usize::from(packet.destination) == receiver)
     }
 
     // Frees a ticket whose packet is collected.
@@ -44,7 +55,7 @@ impl Tables {
         requires { ticket < 512 }
         ensures { Frees self.old self.new ticket }
     {
-        self.tickets[ticket].busy = false;
+        self.tickets[ticket] = None;
     }
 
     // Enters the word of an ejected flit in its ticket's record.
@@ -52,8 +63,11 @@ impl Tables {
         ensures { TakesIn self.old self.new flit }
     {
         let t = usize::from(flit.ticket);
-        if t < TICKETS {
-            self.tickets[t].receive(flit.number, flit.word);
+        if t < TICKETS
+            && let Some(mut packet) = self.tickets[t]
+        {
+            packet.receive(flit.number, flit.word);
+            self.tickets[t] = Some(packet);
         }
     }
 
@@ -62,19 +76,15 @@ impl Tables {
         requires { node < 64 }
         ensures { LetsIn self.old self.new node result }
     {
-        let line = self.waits[node];
-        let Some(ticket) = line.first() else {
-            return None;
-        };
+        let mut line = self.waits[node];
+        let ticket = line.first()?;
         let t = usize::from(ticket);
-        if t >= TICKETS {
-            return None;
-        }
-        let cycle = self.cycles;
-        let packet = &mut self.tickets[t];
-        let flit = packet.send(ticket, cycle);
+        let mut packet = (*self.tickets.get(t)?)?;
+        let flit = packet.send(ticket, self.cycles);
+        self.tickets[t] = Some(packet);
         if packet.sent == packet.size {
-            self.waits[node].leave();
+            line.remove_first();
+            self.waits[node] = line;
         }
         flit
     }

@@ -1,4 +1,5 @@
-use Rattle.std.proofs.Common.{◌≡◌, ◌<◌, ◌≤◌, ◌⊎◌, length, refl, inl, inr, ⊎_elim, arith}
+use Rattle.std.proofs.Common.{◌≡◌, ◌+◌, ◌*◌, ◌<◌, ◌≤◌, ◌⊎◌, length, is_some, None, refl, inl, inr, ⊎_elim, sym, ap, ◌∙◌, arith}
+use Rattle.std.proofs.lemmas.List.{get_or_default}
 use Rattle.network.specs.Cycle.{Fabric}
 use Rattle.calls.proofs.Promising.{not_refused, promised, refusing}
 use Rattle.calls.proofs.Offers.{no_node, no_destination, no_words, not_free, own_ticket, grants}
@@ -44,15 +45,16 @@ returns-then-words-eq0 g c =
 pub bounds-self-ticket : goal.bounds-self-ticket
 bounds-self-ticket g c =
     let s = c.args.self.now in
-    own_ticket (g.L.Layout.plan s.layout) (g.met.L.Layout.lawful s.layout) s.inner.settings s.inner.few c.args.node c.args.own (omega arith) c.if-own-self.false
+    own_ticket (g.L.Layout.plan s.layout) (g.met.L.Layout.lawful s.layout) s.inner.settings s.inner.fits.few c.args.node c.args.own (omega arith) c.if-own-self.false
 
-pub returns-then-self-ticket : goal.returns-then-self-ticket
-returns-then-self-ticket g c =
+pub returns-then-is_some : goal.returns-then-is_some
+returns-then-is_some g c =
     let s = c.args.self.now in
+    let t = own_ticket (g.L.Layout.plan s.layout) (g.met.L.Layout.lawful s.layout) s.inner.settings s.inner.fits.few c.args.node c.args.own (omega arith) c.if-own-self.false in
     let F : Fabric = record { plan = g.L.Layout.plan s.layout; turn = g.S.Switch.turn s.switch } in
     let b = refusing F (g.met.L.Layout.lawful s.layout) (g.met.S.Switch.lawful s.switch) s.inner _ _
     (not_free F s.inner c.args.node c.args.own c.args.destination c.args.words.now (omega arith) (omega arith) (omega arith) c.if-destination-node.false
-    c.if-words-eq0.false c.if-words-self.false c.if-self-ticket.true) in
+    c.if-words-eq0.false c.if-words-self.false (ap is_some (get_or_default s.inner.tickets (c.args.node * s.inner.settings.tickets + c.args.own) None _ (omega arith)) ∙ sym c.if-is_some.ensures)) in
     record { promised = b; parts = (refl, refl) }
 
 pub accept-requires : goal.accept-requires
@@ -60,15 +62,17 @@ accept-requires g c =
     let s = c.args.self.now in
     let law = g.met.L.Layout.lawful s.layout in
     let most = law.few_nodes in
-    let t = own_ticket (g.L.Layout.plan s.layout) law s.inner.settings s.inner.few c.args.node c.args.own (omega arith) c.if-own-self.false in
+    let t = own_ticket (g.L.Layout.plan s.layout) law s.inner.settings s.inner.fits.few c.args.node c.args.own (omega arith) c.if-own-self.false in
     (omega arith, (t, (omega arith, omega arith)))
 
 pub returns : goal.returns
 returns g c =
     let s = c.args.self.now in
     let law = g.met.L.Layout.lawful s.layout in
+    let t = own_ticket (g.L.Layout.plan s.layout) law s.inner.settings s.inner.fits.few c.args.node c.args.own (omega arith) c.if-own-self.false in
     let F : Fabric = record { plan = g.L.Layout.plan s.layout; turn = g.S.Switch.turn s.switch } in
     let b = promised F law (g.met.S.Switch.lawful s.switch) s.inner c.accept.new.self _ _
     (grants F s.inner c.args.node c.args.own c.args.destination c.args.words.now (omega arith) (omega arith) (omega arith) c.if-destination-node.false
-    c.if-words-eq0.false c.if-words-self.false law c.accept.new.self c.accept.ensures (omega arith) (omega arith) c.if-self-ticket.false) not_refused in
+    c.if-words-eq0.false c.if-words-self.false law c.accept.new.self c.accept.ensures (omega arith) (omega arith)
+    (ap is_some (get_or_default s.inner.tickets (c.args.node * s.inner.settings.tickets + c.args.own) None _ (omega arith)) ∙ sym c.if-is_some.ensures)) not_refused in
     record { promised = b; parts = (refl, refl) }

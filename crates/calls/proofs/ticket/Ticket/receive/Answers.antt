@@ -5,7 +5,6 @@ use Rattle.calls.proofs.ticket.Ticket.receive.Goals as goal
 pub returns-then-k-lt-WORDS : goal.returns-then-k-lt-WORDS
 returns-then-k-lt-WORDS c =
     record {
-      busy = refl;
       destination = refl;
       size = refl;
       sent = refl;
@@ -16,4 +15,4 @@ returns-then-k-lt-WORDS c =
 pub returns-else-k-lt-WORDS : goal.returns-else-k-lt-WORDS
 returns-else-k-lt-WORDS c =
     let e = c.from-k.ensures in
-    record { busy = refl; destination = refl; size = refl; sent = refl; words = refl; received = λ j h k. absurd (omega arith) }
+    record { destination = refl; size = refl; sent = refl; words = refl; received = λ j h k. absurd (omega arith) }

@@ -1,0 +1,68 @@
+// What a ticket's record is asked and told.
+ghost use Rattle.std.specs.Prelude.{◌≡◌, ◌≤◌, length};
+ghost use Rattle.network.specs.Runs.{over};
+ghost use Rattle.calls.specs.Records.{Packed, all_in, values, Receives, Sends};
+
+use super::{Ticket, WORDS};
+use fabric::parts::Flit;
+
+impl Ticket {
+    pub(crate) fn new(destination: u8, words: &[u32]) -> Ticket
+        requires { length words.now ≤ 4 }
+        ensures { Packed result destination words.now }
+    {
+        let mut copied = [0; WORDS];
+        copied[..words.len()].copy_from_slice(words);
+        Ticket {
+            destination,
+            size: words.len() as u8,
+            sent: 0,
+            words: copied,
+            received: [None; WORDS],
+        }
+    }
+
+    // Every word of its packet is received.
+    pub(crate) fn complete(&self) -> bool
+        ensures { result ≡ all_in self.now.received self.now.size }
+    {
+        let size = usize::from(self.size);
+        self.received.iter().take(size).all(|word| word.is_some())
+    }
+
+    // Writes the words received over the front of a memory.
+    pub(crate) fn write(&self, memory: &mut [u32])
+        requires { self.now.size ≤ length memory.old }
+        ensures { memory.new ≡ over (values self.now.received self.now.size) memory.old }
+    {
+        let size = usize::from(self.size);
+        let words = self.received.map(|word| word.unwrap_or(0));
+        memory[..size].copy_from_slice(&words[..size]);
+    }
+
+    // Enters a word in its place.
+    pub(crate) fn receive(&mut self, number: u8, word: u32)
+        ensures { Receives self.old self.new number word }
+    {
+        let k = usize::from(number);
+        if k < WORDS {
+            self.received[k] = Some(word);
+        }
+    }
+
+    // The next flit of the packet, if one is left.
+    pub(crate) fn send(&mut self, ticket: u16, cycle: u32) -> Option<Flit>
+        ensures { Sends self.old self.new ticket cycle result }
+    {
+        let word = *self.words.get(usize::from(self.sent))?;
+        let flit = Flit {
+            ticket,
+            number: self.sent,
+            destination: self.destination,
+            word,
+            entered: cycle,
+        };
+        self.sent += 1;
+        Some(flit)
+    }
+}
