@@ -1,0 +1,11 @@
+// A batch: up to N values of one type, in the order in which they were put (in the field: a vector of fixed capacity).
+ghost use Rattle.std.specs.Prelude.{◌≤◌};
+
+mod calls;
+
+#[derive(Copy)]
+pub struct Batch<T, const N: usize> {
+    places: [T; N],
+    held: usize,
+    ghost within: { held ≤ N },
+}
