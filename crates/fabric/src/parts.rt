@@ -5,8 +5,9 @@ ghost use Rattle.fabric.specs.Ports.{place_of, letter};
 use std::fmt;
 
 // A side of a node, by which flits arrive and leave. This is slot order.
-#[derive(Clone, Copy, PartialEq, Eq, Debug)]
+#[derive(Clone, Copy, PartialEq, Eq, Debug, Default)]
 pub enum Port {
+    #[default]
     N,
     E,
     S,
@@ -36,14 +37,14 @@ impl fmt::Display for Port {
 }
 
 // The input register behind a port of a node: empty, or holding one flit that arrived there.
-#[derive(Clone, Copy, PartialEq, Eq, Debug)]
+#[derive(Clone, Copy, PartialEq, Eq, Debug, Default)]
 pub struct Slot {
     pub node: usize,
     pub port: Port,
 }
 
 // A cable joins two ports, of one node or of two.
-#[derive(Clone, Copy, PartialEq, Eq, Debug)]
+#[derive(Clone, Copy, PartialEq, Eq, Debug, Default)]
 pub struct Cable {
     pub one: Slot,
     pub other: Slot,

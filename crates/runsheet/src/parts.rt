@@ -14,7 +14,7 @@ pub enum Shape {
 }
 
 // The run's line: the settings of the network, and the cycles to carry out.
-#[derive(Clone, Copy, PartialEq, Eq, Debug)]
+#[derive(Clone, Copy, PartialEq, Eq, Debug, Default)]
 pub struct Run {
     // the tickets of each node
     pub tickets: u32,
@@ -27,14 +27,15 @@ pub struct Run {
 }
 
 // The switch's line: the kind of switch that every node has.
-#[derive(Clone, Copy, PartialEq, Eq, Debug)]
+#[derive(Clone, Copy, PartialEq, Eq, Debug, Default)]
 pub enum SwitchKind {
+    #[default]
     Chipper,
     Bless,
 }
 
 // A planned packet: when it is offered and by whom, and its words, the first `count` of four.
-#[derive(Clone, Copy, PartialEq, Eq, Debug)]
+#[derive(Clone, Copy, PartialEq, Eq, Debug, Default)]
 pub struct Packet {
     pub cycle: u32,
     pub node: u32,

@@ -130,12 +130,12 @@ tallied bs s t x y n a k =
       most = k.2;
     }
 
-pub wholly : (bs : List ℕ) (s t : Lines) (x : Shape) (y : Run) (n : ℕ) (cs : List Cable) → Tallied bs x y n s → Between (map cable_line (take n cs)) s t × Fitting (take n cs) × (length cs ≡ 128) → Whole bs (ask x y (take n cs)) t
+pub wholly : (bs : List ℕ) (s t : Lines) (x : Shape) (y : Run) (n : ℕ) (cs : List Cable) → Tallied bs x y n s → Between (map cable_line cs) s t × Fitting cs × (length cs ≡ n) → Whole bs (ask x y cs) t
 wholly bs s t x y n cs a w =
-    let e : length (take n cs) ≡ n = length-take-le n cs (omega (arith, a.most, w.2)) in
+    let e = w.2 in
     record {
-      formed = formed x y (take n cs) 128 a.shape a.run a.brief w.1 (subst (Uncabled x) (sym e) a.uncabled) (omega (arith, a.most)) (omega (arith, a.most));
-      over = over_both (shape_line x ∷ run_line y ∷ count_lines x (length (take n cs))) (map cable_line (take n cs)) bs s.rest.now t.rest.now 0 s.read t.read (subst (λ i. Over (shape_line x ∷ run_line y ∷ count_lines x i) bs 0 s.rest.now s.read) (sym e) a.over) w.0;
+      formed = formed x y cs 128 a.shape a.run a.brief w.1 (subst (Uncabled x) (sym e) a.uncabled) (omega (arith, a.most)) (omega (arith, a.most));
+      over = over_both (shape_line x ∷ run_line y ∷ count_lines x (length cs)) (map cable_line cs) bs s.rest.now t.rest.now 0 s.read t.read (subst (λ i. Over (shape_line x ∷ run_line y ∷ count_lines x i) bs 0 s.rest.now s.read) (sym e) a.over) w.0;
     }
 
 pub finished : (bs : List ℕ) (s : Lines) (p q : Asked) → Whole bs p s → q ≡ p → s.rest.now ≡ [] → Formed 128 q × (bs ≡ asked_text q)

@@ -1,7 +1,7 @@
 -- The lines of the cables, and the line of their count.
-use Rattle.std.proofs.Common.{◌≡◌, ℕ, ◌+◌, ◌<◌, List, [], map, length, take, set, Ok, Err, Result, sym, refl, ap, ◌∙◌, subst, inl, inr, ⊎_elim, arith}
+use Rattle.std.proofs.Common.{◌≡◌, ℕ, ◌+◌, ◌<◌, List, [], ◌∷◌, ◌++◌, map, length, Ok, Err, Result, sym, refl, ap, ◌∙◌, subst, inl, inr, ⊎_elim, arith}
 use Rattle.std.specs.List.{AllByRecursion}
-use Rattle.std.proofs.lemmas.List.{length-take-le, take_more_set, map_push}
+use Rattle.std.proofs.lemmas.List.{map_push}
 use Rattle.std.proofs.ByRecursion.{All-push}
 use Rattle.fabric.specs.declared.parts.Cable.{Cable}
 use Rattle.sheet.specs.Texts.{Fits, Free, Lined, Barred, shown, Any}
@@ -29,15 +29,13 @@ counted x m y s t ws k (Err f) l e i h =
     h)
 
 -- one cable more
-module _ (s t : Lines) (cs : List Cable) (i : ℕ) (l : i < length cs) (o : Between (map cable_line (take i cs)) s t) where
-  pub more_lines : (u : Lines) (x : Cable) (ws : List (List ℕ)) → Lined t.rest.now ws u.rest.now → u.read ≡ t.read + 1 → ws ≡ map shown (cable_line x) → Between (map cable_line (take (i + 1) (set cs i x))) s u
-  more_lines u x ws n e w =
-      subst (λ A. Between A s u) (sym (map_push cable_line (take i cs) x) ∙ ap (map cable_line) (sym (take_more_set cs i x l)))
-      (over_line (map cable_line (take i cs)) (cable_line x) _ _ _ _ _ _ ws o n e w)
+module _ (s t : Lines) (cs : List Cable) (o : Between (map cable_line cs) s t) where
+  pub more_lines : (u : Lines) (x : Cable) (ws : List (List ℕ)) → Lined t.rest.now ws u.rest.now → u.read ≡ t.read + 1 → ws ≡ map shown (cable_line x) → Between (map cable_line (cs ++ x ∷ [])) s u
+  more_lines u x ws n e w = subst (λ A. Between A s u) (sym (map_push cable_line cs x)) (over_line (map cable_line cs) (cable_line x) _ _ _ _ _ _ ws o n e w)
 
-  pub more_fitting : (x : Cable) → AllByRecursion Fits (cable_line x) → Fitting (take i cs) → Fitting (take (i + 1) (set cs i x))
-  more_fitting x h f = subst Fitting (sym (take_more_set cs i x l)) (All-push (λ c. AllByRecursion Fits (cable_line c)) (take i cs) x f h)
+  pub more_fitting : (x : Cable) → AllByRecursion Fits (cable_line x) → Fitting cs → Fitting (cs ++ x ∷ [])
+  more_fitting x h f = All-push (λ c. AllByRecursion Fits (cable_line c)) cs x f h
 
   -- no cable follows
-  pub unwired : (n : ℕ) (f : Fault) → i < n → Fitting (take i cs) → told f ≡ ill_formed (t.read + 1) → Barred cable_line Any t.rest.now → Unwired n s f
-  unwired n f k h at b = (take i cs, t.rest.now, t.read, (let z = length-take-le i cs (omega arith) in omega arith), h, o, at, b)
+  pub unwired : (n : ℕ) (f : Fault) → length cs < n → Fitting cs → told f ≡ ill_formed (t.read + 1) → Barred cable_line Any t.rest.now → Unwired n s f
+  unwired n f k h at b = (cs, t.rest.now, t.read, k, h, o, at, b)

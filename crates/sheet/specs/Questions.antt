@@ -1,6 +1,7 @@
 -- A question, and its one text.
 use Rattle.std.specs.Prelude.{◌≡◌, ℕ, ◌^◌, ◌≤◌, List, [], ◌∷◌, ◌++◌, map, length, take, codes}
 use Rattle.std.specs.List.{AllByRecursion}
+use Rattle.batch.specs.Items.{items}
 use Rattle.fabric.specs.Ports.{letter}
 use Rattle.fabric.specs.declared.parts.Slot.{Slot}
 use Rattle.fabric.specs.declared.parts.Cable.{Cable}
@@ -35,7 +36,7 @@ pub record Asked : Type 0 where
   pub cables : List Cable
 
 abbrev pub asked : Question → Asked
-asked q = record { shape = q.shape; run = q.run; cables = take q.count q.cables }
+asked q = record { shape = q.shape; run = q.run; cables = items q.cables }
 
 -- the line that says how many cables follow, which a mesh has not
 abbrev pub count_lines : Shape → ℕ → List (List Field)

@@ -1,6 +1,8 @@
 // What the lines of a text say.
-ghost use Rattle.std.specs.Prelude.{◌≡◌, ◌≤◌, take};
+ghost use Rattle.std.specs.Prelude.{◌≡◌};
+ghost use Rattle.batch.specs.Items.{items};
 
+use batch::Batch;
 use fabric::parts::Cable;
 
 // The cables that a text has at most.
@@ -27,38 +29,19 @@ pub struct Run {
 }
 
 // What is asked: the limits of a run on a layout.
-#[derive(Clone, Copy, Debug)]
+#[derive(Clone, Copy)]
 pub struct Question {
     pub shape: Shape,
     pub run: Run,
-    cables: [Cable; MOST_CABLES],
-    count: usize,
-    ghost few: { count ≤ 128 },
+    // in the order of their lines; a mesh has none
+    pub(crate) cables: Batch<Cable, MOST_CABLES>,
 }
 
 impl Question {
-    pub(crate) fn new(
-        shape: Shape,
-        run: Run,
-        cables: [Cable; MOST_CABLES],
-        count: usize,
-    ) -> Question
-        requires { count ≤ 128 }
-        ensures lines { (result.shape ≡ shape) × (result.run ≡ run) }
-        ensures cables { (result.cables ≡ cables) × (result.count ≡ count) }
-    {
-        Question {
-            shape,
-            run,
-            cables,
-            count,
-        }
-    }
-
     // The cables in the order of their lines; a mesh has none.
     pub fn cables(&self) -> &[Cable]
-        ensures { result.now ≡ take self.now.count self.now.cables }
+        ensures { result.now ≡ items self.now.cables }
     {
-        &self.cables[..self.count]
+        self.cables.as_slice()
     }
 }

@@ -7,7 +7,8 @@ use super::fault::Fault;
 use super::lines::Lines;
 use super::parts::{MOST_CABLES, Question, Shape};
 use super::rows;
-use fabric::parts::{Cable, Port, Slot};
+use batch::Batch;
+use fabric::parts::Cable;
 
 const MOST_BYTES: usize = 65536;
 
@@ -22,20 +23,14 @@ fn count(lines: &mut Lines, shape: Shape) -> Result<usize, Fault>
 }
 
 // The cables of the next `count` lines.
-fn cables(lines: &mut Lines, count: usize) -> Result<[Cable; MOST_CABLES], Fault>
+fn cables(lines: &mut Lines, count: usize) -> Result<Batch<Cable, MOST_CABLES>, Fault>
     requires { count ≤ 128 }
     ensures { Wired count lines.old lines.new result }
 {
-    let slot = Slot {
-        node: 0,
-        port: Port::N,
-    };
-    let mut cables = [Cable {
-        one: slot,
-        other: slot,
-    }; MOST_CABLES];
-    for i in 0..count {
-        cables[i] = rows::cable(&mut lines.next()?)?;
+    let mut cables = Batch::new(Cable::default());
+    for _ in 0..count {
+        let cable = rows::cable(&mut lines.next()?)?;
+        cables.push(cable).unwrap();
     }
     Ok(cables)
 }
@@ -54,7 +49,7 @@ pub fn read(bytes: &[u8]) -> Result<Question, Fault>
     let count = count(&mut lines, shape)?;
     let cables = cables(&mut lines, count)?;
     lines.end()?;
-    Ok(Question::new(shape, run, cables, count))
+    Ok(Question { shape, run, cables })
 }
 
 #[cfg(test)]
