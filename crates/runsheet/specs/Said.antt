@@ -1,9 +1,9 @@
 -- What a sheet says, as its lines give it.
 use Rattle.std.specs.Prelude.{List, take}
 use Rattle.fabric.specs.declared.parts.Cable.{Cable}
-use Rattle.runsheet.specs.declared.parts.Shape.{Shape}
+use Rattle.text.specs.declared.parts.Shape.{Shape}
 use Rattle.runsheet.specs.declared.parts.SwitchKind.{SwitchKind}
-use Rattle.runsheet.specs.declared.parts.Run.{Run}
+use Rattle.text.specs.declared.parts.Run.{Run}
 use Rattle.runsheet.specs.declared.parts.Packet.{Packet}
 use Rattle.runsheet.specs.declared.sheet.Sheet.{Sheet}
 

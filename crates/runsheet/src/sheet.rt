@@ -1,8 +1,9 @@
 // A run sheet, as it was read.
 ghost use Rattle.std.specs.Prelude.{◌≤◌};
 
-use super::parts::{MOST_CABLES, MOST_PACKETS, Packet, Run, Shape, SwitchKind};
+use super::parts::{MOST_PACKETS, Packet, SwitchKind};
 use fabric::parts::Cable;
+use text::parts::{MOST_CABLES, Run, Shape};
 
 mod methods;
 

@@ -3,11 +3,13 @@ ghost use Rattle.std.specs.Prelude.{◌≡◌, ◌≤◌, length, MatchResult};
 ghost use Rattle.sheet.specs.Questions.{asked, asked_text, Formed, Refused};
 ghost use Rattle.sheet.specs.Reading.{Counted, Wired};
 
-use super::fault::Fault;
 use super::lines::Lines;
-use super::parts::{MOST_CABLES, Question, Shape};
+use super::parts::Question;
 use super::rows;
 use fabric::parts::{Cable, Port, Slot};
+use text::fault::Fault;
+use text::parts::{MOST_CABLES, Shape};
+use text::rows as shared;
 
 const MOST_BYTES: usize = 65536;
 
@@ -35,7 +37,7 @@ fn cables(lines: &mut Lines, count: usize) -> Result<[Cable; MOST_CABLES], Fault
         other: slot,
     }; MOST_CABLES];
     for i in 0..count {
-        cables[i] = rows::cable(&mut lines.next()?)?;
+        cables[i] = shared::cable(&mut lines.next()?)?;
     }
     Ok(cables)
 }

@@ -1,5 +1,5 @@
 use Rattle.std.proofs.Common.{◌≡◌, map, length, take}
-use Rattle.sheet.specs.Questions.{cable_line}
+use Rattle.text.specs.Lines.{cable_line}
 use Rattle.sheet.specs.Reading.{Between, Fitting}
 use Rattle.sheet.proofs.question.cables.Given as goal
 

@@ -1,6 +1,6 @@
 use Rattle.std.proofs.Common.{subst}
 use Rattle.std.specs.List.{AllByRecursion}
-use Rattle.runsheet.specs.Texts.{Fits}
+use Rattle.text.specs.Texts.{Fits}
 use Rattle.runsheet.specs.Reading.{draft, entry_line, Suits, Within}
 use Rattle.runsheet.proofs.Moves.{short, entered, put_cables, put_cable, put_packets, put_packet}
 use Rattle.runsheet.proofs.reader.Reader.put.Goals as goal
