@@ -8,8 +8,9 @@ use Rattle.batch.specs.declared.batch.Batch.{Batch}
 use Rattle.batch.specs.Items.{items, joined}
 use Rattle.batch.proofs.Rooms.{joined_room}
 use Rattle.fabric.specs.declared.parts.Cable.{Cable as Wire}
-use Rattle.runsheet.specs.Texts.{Fits}
-use Rattle.runsheet.specs.Sheets.{Sized, Rising, shape_line, kind_line, run_line, cables_line, cable_line, packets_line, packet_line}
+use Rattle.text.specs.Texts.{Fits}
+use Rattle.runsheet.specs.Sheets.{Sized, Rising, kind_line, packets_line, packet_line}
+use Rattle.text.specs.Lines.{shape_line, run_line, cables_line, cable_line}
 use Rattle.runsheet.specs.Reading.{Draft, draft, entry_line, Suits, cabled_lines, all_lines, so_far, lines_read, Stage, latest, Valid, Sound, Grown, after, stepped}
 use Rattle.runsheet.specs.declared.parts.Packet.{Packet as Plan}
 use Rattle.runsheet.specs.declared.reader.Section.{Section}

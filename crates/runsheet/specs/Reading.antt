@@ -3,14 +3,15 @@ use Rattle.std.specs.Prelude.{◌≡◌, ℕ, ◌+◌, ◌<◌, ◌≤◌, cond,
 use Rattle.std.specs.List.{AllByRecursion}
 use Rattle.batch.specs.Items.{items}
 use Rattle.fabric.specs.declared.parts.Cable.{Cable as Wire}
-use Rattle.runsheet.specs.Texts.{Field, Fits, shown, written, Barred, Any}
-use Rattle.runsheet.specs.Fields.{Unlike}
-use Rattle.runsheet.specs.Faults.{told, ill_formed, too_many}
-use Rattle.runsheet.specs.Sheets.{shape_line, kind_line, run_line, cables_line, cable_line, packets_line, packet_line, Brief, Uncabled, Sized, Rising}
-use Rattle.runsheet.specs.declared.fault.Fault.{Fault}
-use Rattle.runsheet.specs.declared.parts.Shape.{Shape}
+use Rattle.text.specs.Texts.{Field, Fits, shown, written, Barred, Any}
+use Rattle.text.specs.Fields.{Unlike}
+use Rattle.text.specs.Faults.{told, ill_formed, too_many}
+use Rattle.text.specs.Lines.{shape_line, run_line, cables_line, cable_line, Brief, Uncabled}
+use Rattle.runsheet.specs.Sheets.{kind_line, packets_line, packet_line, Sized, Rising}
+use Rattle.text.specs.declared.fault.Fault.{Fault}
+use Rattle.text.specs.declared.parts.Shape.{Shape}
 use Rattle.runsheet.specs.declared.parts.SwitchKind.{SwitchKind}
-use Rattle.runsheet.specs.declared.parts.Run.{Run as Settings}
+use Rattle.text.specs.declared.parts.Run.{Run as Settings}
 use Rattle.runsheet.specs.declared.parts.Packet.{Packet as Plan}
 use Rattle.runsheet.specs.declared.reader.Section.{Section}
 use Rattle.runsheet.specs.declared.reader.Section.TheVariants as section

@@ -1,19 +1,21 @@
 // The reader of run sheets judges each line by the section that it is in.
 ghost use Rattle.std.specs.Prelude.{◌≡◌, ◌+◌, ◌≤◌, MatchResult};
 ghost use Rattle.std.specs.List.{AllByRecursion};
-ghost use Rattle.runsheet.specs.Faults.{told, too_many};
-ghost use Rattle.runsheet.specs.Texts.{parted, Fits};
+ghost use Rattle.text.specs.Faults.{told, too_many};
+ghost use Rattle.text.specs.Texts.{parted, Fits};
 ghost use Rattle.runsheet.specs.Said.{said};
 ghost use Rattle.runsheet.specs.Sheets.{SheetText, Refused};
 ghost use Rattle.runsheet.specs.Reading.{entry_line, draft, Suits, Judges, Within, Exceeds, Sound, Grown, Reached, Refuses, after, stepped};
 
-use super::fault::Fault;
-use super::field::{Fields, find, is};
-use super::parts::{MOST_CABLES, MOST_PACKETS, Packet, Run, Shape, SwitchKind};
+use super::parts::{MOST_PACKETS, Packet, SwitchKind};
 use super::rows;
 use super::sheet::Sheet;
 use batch::Batch;
 use fabric::parts::Cable;
+use text::fault::Fault;
+use text::field::{Fields, find, is};
+use text::parts::{MOST_CABLES, Run, Shape};
+use text::rows as shared;
 
 const MOST_BYTES: usize = 65536;
 
@@ -102,18 +104,18 @@ impl Reader {
         let mut fields = Fields::new(bytes, line);
         let word = fields.word()?;
         match (self.section, word) {
-            (Section::Layout, w) if is(w, b"mesh") => Ok(Entry::Shape(rows::mesh(&mut fields)?)),
-            (Section::Layout, w) if is(w, b"cabled") => Ok(Entry::Shape(rows::cabled(
+            (Section::Layout, w) if is(w, b"mesh") => Ok(Entry::Shape(shared::mesh(&mut fields)?)),
+            (Section::Layout, w) if is(w, b"cabled") => Ok(Entry::Shape(shared::cabled(
                 &mut fields,
             )?)),
             (Section::Switch, w) if is(w, b"switch") => Ok(Entry::Kind(rows::switch(&mut fields)?)),
-            (Section::Run, w) if is(w, b"run") => Ok(Entry::Run(rows::run(&mut fields)?)),
+            (Section::Run, w) if is(w, b"run") => Ok(Entry::Run(shared::run(&mut fields)?)),
             (Section::Cables, w) if is(w, b"cables") => Ok(Entry::Cables(rows::cables(
                 &mut fields,
                 self.shape,
             )?)),
-            (Section::Cable, _) => Ok(Entry::Cable(rows::cable(&mut Fields::new(bytes, line))?)),
-            (Section::Packets, w) if is(w, b"packets") => Ok(Entry::Packets(rows::count(
+            (Section::Cable, _) => Ok(Entry::Cable(shared::cable(&mut Fields::new(bytes, line))?)),
+            (Section::Packets, w) if is(w, b"packets") => Ok(Entry::Packets(shared::count(
                 &mut fields,
             )?)),
             (Section::Packet, _) => Ok(Entry::Packet(rows::packet(

@@ -4,17 +4,18 @@ use Rattle.std.specs.List.{AllByRecursion}
 use Rattle.std.proofs.lemmas.List.{map_push}
 use Rattle.std.proofs.ByRecursion.{All-push}
 use Rattle.fabric.specs.declared.parts.Cable.{Cable}
-use Rattle.sheet.specs.Texts.{Fits, Free, Lined, Barred, shown, Any}
-use Rattle.sheet.specs.Faults.{told, ill_formed, too_many}
-use Rattle.sheet.specs.Fields.{Counts}
-use Rattle.sheet.specs.Questions.{cables_line, cable_line}
+use Rattle.text.specs.Texts.{Fits, Free, Lined, Barred, shown, Any}
+use Rattle.text.specs.Faults.{told, ill_formed, too_many}
+use Rattle.sheet.specs.Counts.{Counts}
+use Rattle.text.specs.Lines.{cables_line, cable_line}
 use Rattle.sheet.specs.Reading.{Between, Miscounted, Counted, Fitting, Unwired}
-use Rattle.sheet.specs.declared.fault.Fault.{Fault}
+use Rattle.text.specs.declared.fault.Fault.{Fault}
 use Rattle.sheet.specs.declared.lines.Lines.{Lines}
-use Rattle.sheet.specs.declared.parts.Shape.{Shape}
-use Rattle.sheet.specs.declared.parts.Shape.TheVariants.{Cabled}
-use Rattle.sheet.proofs.Tidy.{tidy_count}
-use Rattle.sheet.proofs.Stopping.{is_line, over_line, no_line, other_line}
+use Rattle.text.specs.declared.parts.Shape.{Shape}
+use Rattle.text.specs.declared.parts.Shape.TheVariants.{Cabled}
+use Rattle.text.proofs.Tidy.{tidy_cables}
+use Rattle.text.proofs.Stopping.{is_line, no_line, other_line}
+use Rattle.sheet.proofs.Going.{over_line}
 
 pub uncounted : (x : Shape) (m : ℕ) → x ≡ Cabled m → (s : Lines) (f : Fault) → told f ≡ ill_formed (s.read + 1) → Free 10 s.rest.now → Miscounted x s f
 uncounted x m e s f at h = subst (λ y. Miscounted y s f) (sym e) (inl (at, no_line cables_line Any s.rest.now h))
@@ -24,7 +25,7 @@ counted x m y s t ws k (Ok n) l e i h = subst (λ z. Counted z s t (Ok n)) (sym 
 counted x m y s t ws k (Err f) l e i h =
     subst (λ z. Miscounted z s f) (sym y)
     (⊎_elim
-    (λ g. inl (g.0 ∙ ap ill_formed i, other_line cables_line Any s.rest.now tidy_count ws t.rest.now l (λ n fits _. g.1 n fits)))
+    (λ g. inl (g.0 ∙ ap ill_formed i, other_line cables_line Any s.rest.now tidy_cables ws t.rest.now l g.1))
     (λ g. inr (g.0 ∙ ap too_many i, (g.1.0, t.rest.now, is_line (cables_line g.1.0) s.rest.now t.rest.now ws l g.1.1, g.1.2, g.1.3)))
     h)
 

@@ -4,13 +4,14 @@ use Rattle.std.specs.List.{AllByRecursion}
 use Rattle.batch.specs.declared.batch.Batch.{Batch}
 use Rattle.batch.specs.Items.{items}
 use Rattle.fabric.specs.declared.parts.Cable.{Cable}
-use Rattle.sheet.specs.Texts.{Field, Fits, written, text, Barred, Any}
-use Rattle.sheet.specs.Faults.{told, ill_formed, too_many}
-use Rattle.sheet.specs.Questions.{cables_line, cable_line, count_lines, Uncabled}
-use Rattle.sheet.specs.declared.fault.Fault.{Fault}
+use Rattle.text.specs.Texts.{Field, Fits, written, text, Barred, Any}
+use Rattle.text.specs.Faults.{told, ill_formed, too_many}
+use Rattle.text.specs.Lines.{cables_line, cable_line, Uncabled}
+use Rattle.sheet.specs.Questions.{count_lines}
+use Rattle.text.specs.declared.fault.Fault.{Fault}
 use Rattle.sheet.specs.declared.lines.Lines.{Lines}
-use Rattle.sheet.specs.declared.parts.Shape.{Shape}
-use Rattle.sheet.specs.declared.parts.Shape.TheVariants.{Mesh, Cabled}
+use Rattle.text.specs.declared.parts.Shape.{Shape}
+use Rattle.text.specs.declared.parts.Shape.TheVariants.{Mesh, Cabled}
 
 -- the lines A lead from the text bs, after k lines, to the text rest, after j lines
 pub record Over (A : List (List Field)) (bs : List ℕ) (k : ℕ) (rest : List ℕ) (j : ℕ) : Type 0 where

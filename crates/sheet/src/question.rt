@@ -3,12 +3,14 @@ ghost use Rattle.std.specs.Prelude.{◌≡◌, ◌≤◌, length, MatchResult};
 ghost use Rattle.sheet.specs.Questions.{asked, asked_text, Formed, Refused};
 ghost use Rattle.sheet.specs.Reading.{Counted, Wired};
 
-use super::fault::Fault;
 use super::lines::Lines;
-use super::parts::{MOST_CABLES, Question, Shape};
+use super::parts::Question;
 use super::rows;
 use batch::Batch;
 use fabric::parts::Cable;
+use text::fault::Fault;
+use text::parts::{MOST_CABLES, Shape};
+use text::rows as shared;
 
 const MOST_BYTES: usize = 65536;
 
@@ -29,7 +31,7 @@ fn cables(lines: &mut Lines, count: usize) -> Result<Batch<Cable, MOST_CABLES>, 
 {
     let mut cables = Batch::new(Cable::default());
     for _ in 0..count {
-        let cable = rows::cable(&mut lines.next()?)?;
+        let cable = shared::cable(&mut lines.next()?)?;
         cables.push(cable).unwrap();
     }
     Ok(cables)

@@ -1,7 +1,7 @@
 use Rattle.std.proofs.Common.{ℕ, length, refl, ap, arith}
 use Rattle.batch.proofs.Rooms.{few_items}
 use Rattle.fabric.specs.Refusals.{number}
-use Rattle.runsheet.specs.declared.fault.Layer.TheVariants.{Layout}
+use Rattle.text.specs.declared.fault.Layer.TheVariants.{Layout}
 use Rattle.laying.specs.Reports.Report.{faults}
 use Rattle.laying.proofs.Laying.{as_plans, named_below}
 use Rattle.laying.proofs.lay_cables.Goals as goal

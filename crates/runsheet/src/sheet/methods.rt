@@ -4,9 +4,10 @@ ghost use Rattle.batch.specs.Items.{items};
 ghost use Rattle.runsheet.specs.Said.{said};
 
 use super::Sheet;
-use crate::parts::{MOST_CABLES, MOST_PACKETS, Packet, Run, Shape, SwitchKind};
+use crate::parts::{MOST_PACKETS, Packet, SwitchKind};
 use batch::Batch;
 use fabric::parts::Cable;
+use text::parts::{MOST_CABLES, Run, Shape};
 
 impl Sheet {
     pub(crate) fn new(

@@ -4,13 +4,13 @@ use Rattle.std.proofs.lemmas.Result.{err_from_is_err_and}
 use Rattle.fabric.specs.declared.parts.Cable.{Cable}
 use Rattle.batch.specs.Items.{items}
 use Rattle.batch.proofs.Rooms.{joined_room, answer_room}
-use Rattle.sheet.specs.Texts.{Any}
-use Rattle.sheet.specs.Faults.{ill_formed}
-use Rattle.sheet.specs.Questions.{cable_line}
+use Rattle.text.specs.Texts.{Any}
+use Rattle.text.specs.Faults.{ill_formed}
+use Rattle.text.specs.Lines.{cable_line}
 use Rattle.sheet.specs.Reading.{Between, Fitting, Unwired}
-use Rattle.sheet.proofs.Exits.{err_at}
-use Rattle.sheet.proofs.Tidy.{tidy_cable}
-use Rattle.sheet.proofs.Stopping.{no_line, other_line}
+use Rattle.text.proofs.Exits.{err_at}
+use Rattle.text.proofs.Tidy.{tidy_cable}
+use Rattle.text.proofs.Stopping.{no_line, other_line}
 use Rattle.sheet.proofs.Wiring.{more_lines, more_fitting, unwired}
 use Rattle.sheet.proofs.question.cables.Goals as goal
 

@@ -1,6 +1,6 @@
 use Rattle.std.proofs.Common.{◌≡◌, map, length}
 use Rattle.batch.specs.Items.{items}
-use Rattle.sheet.specs.Questions.{cable_line}
+use Rattle.text.specs.Lines.{cable_line}
 use Rattle.sheet.specs.Reading.{Between, Fitting}
 use Rattle.sheet.proofs.question.cables.Given as goal
 

@@ -1,12 +1,13 @@
 use Rattle.std.proofs.Common.{ap, refl, ◌∙◌, arith}
 use Rattle.std.proofs.lemmas.Result.{err_from_is_err_and}
 use Rattle.batch.specs.Items.{items}
-use Rattle.sheet.specs.Texts.{Any}
-use Rattle.sheet.specs.Faults.{ill_formed}
-use Rattle.sheet.specs.Questions.{shape_line, run_line, asked, Brief, Refused}
-use Rattle.sheet.proofs.Exits.{err_at}
-use Rattle.sheet.proofs.Tidy.{tidy_shape, tidy_run}
-use Rattle.sheet.proofs.Stopping.{no_line, other_line}
+use Rattle.text.specs.Texts.{Any}
+use Rattle.text.specs.Faults.{ill_formed}
+use Rattle.text.specs.Lines.{shape_line, run_line, Brief}
+use Rattle.sheet.specs.Questions.{Refused}
+use Rattle.text.proofs.Exits.{err_at}
+use Rattle.text.proofs.Tidy.{tidy_shape, tidy_run}
+use Rattle.text.proofs.Stopping.{no_line, other_line}
 use Rattle.sheet.proofs.Asking.{shaped, fronted, tallied, wholly, finished, no_shape, no_run, miscounted, miswired, no_end}
 use Rattle.sheet.proofs.question.read.Goals as goal
 

@@ -1,6 +1,6 @@
 use Rattle.std.proofs.Common.{ap, subst, ◌∙◌}
 use Rattle.std.specs.List.{AllByRecursion}
-use Rattle.runsheet.specs.Texts.{Fits}
+use Rattle.text.specs.Texts.{Fits}
 use Rattle.runsheet.specs.Reading.{draft, entry_line, Suits, Within, after, stepped}
 use Rattle.runsheet.specs.declared.reader.Section.TheVariants as section
 use Rattle.runsheet.proofs.Moves.{entered, put_cables, put_cable, put_packets, put_packet, with_wires, with_cables, with_plans, with_packets}
