@@ -3,7 +3,7 @@ ghost use Rattle.std.specs.Prelude.{◌≤◌};
 
 mod calls;
 
-#[derive(Copy)]
+#[derive(Copy, Debug)]
 pub struct Batch<T, const N: usize> {
     places: [T; N],
     held: usize,

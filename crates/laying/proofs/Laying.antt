@@ -6,9 +6,9 @@ use Rattle.fabric.specs.Verdicts.{Verdict}
 use Rattle.fabric.specs.Verdicts.Verdict.{granted, refused}
 use Rattle.cabled.specs.Cables.{Cabling, lone}
 use Rattle.cabled.specs.Cables.Cabling.{unfair, bad, unreached, cabled}
-use Rattle.runsheet.specs.declared.fault.Fault.{Fault}
-use Rattle.runsheet.specs.declared.parts.Shape.{Shape}
-use Rattle.runsheet.specs.Faults.{told}
+use Rattle.text.specs.declared.fault.Fault.{Fault}
+use Rattle.text.specs.declared.parts.Shape.{Shape}
+use Rattle.text.specs.Faults.{told}
 use Rattle.laying.specs.Reports.{Report, reported}
 use Rattle.laying.specs.Reports.Report.{faults}
 use Rattle.laying.specs.Layings.{Laid}

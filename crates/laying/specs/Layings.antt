@@ -6,10 +6,10 @@ use Rattle.fabric.specs.Meshes.{mesh_verdict}
 use Rattle.fabric.specs.Verdicts.{Verdict, granting}
 use Rattle.cabled.specs.Cables.{Cabling, lone}
 use Rattle.bounds.specs.declared.settings.Settings.{Settings}
-use Rattle.runsheet.specs.declared.fault.Layer.TheVariants.{Layout, Network}
-use Rattle.runsheet.specs.declared.parts.Shape.{Shape}
-use Rattle.runsheet.specs.declared.parts.Shape.TheVariants.{Mesh, Cabled}
-use Rattle.runsheet.specs.declared.parts.Run.{Run}
+use Rattle.text.specs.declared.fault.Layer.TheVariants.{Layout, Network}
+use Rattle.text.specs.declared.parts.Shape.{Shape}
+use Rattle.text.specs.declared.parts.Shape.TheVariants.{Mesh, Cabled}
+use Rattle.text.specs.declared.parts.Run.{Run}
 use Rattle.laying.specs.Reports.{Report, by_layer}
 
 -- where a refusal of the layout stands: 13 at its cable, 14 at the count of cables, any other at the layout's line

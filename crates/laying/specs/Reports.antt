@@ -2,9 +2,9 @@
 use Rattle.std.specs.Prelude.{ℕ, List, Ok, Err, Result}
 use Rattle.fabric.specs.Verdicts.{Verdict}
 use Rattle.fabric.specs.Verdicts.Verdict.{granted, refused}
-use Rattle.runsheet.specs.declared.fault.Fault.{Fault}
-use Rattle.runsheet.specs.declared.fault.Layer.{Layer}
-use Rattle.runsheet.specs.Faults.{told}
+use Rattle.text.specs.declared.fault.Fault.{Fault}
+use Rattle.text.specs.declared.fault.Layer.{Layer}
+use Rattle.text.specs.Faults.{told}
 
 -- an answer, or a fault by its number, its layer and its line
 pub data Report (A : Type 0) : Type 0 where

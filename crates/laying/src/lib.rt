@@ -5,9 +5,9 @@ ghost use Rattle.std.specs.Prelude.{◌≡◌, ◌<◌, [], slice_index};
 ghost use Rattle.fabric.specs.Meshes.{mesh_plan};
 ghost use Rattle.fabric.specs.Refusals.{number, numbered};
 ghost use Rattle.cabled.specs.Plans.{plan_of};
-ghost use Rattle.runsheet.specs.declared.fault.Layer.TheVariants.{Network};
-ghost use Rattle.runsheet.specs.declared.parts.Shape.{Shape as Form};
-ghost use Rattle.runsheet.specs.Faults.{told};
+ghost use Rattle.text.specs.declared.fault.Layer.TheVariants.{Network};
+ghost use Rattle.text.specs.declared.parts.Shape.{Shape as Form};
+ghost use Rattle.text.specs.Faults.{told};
 ghost use Rattle.runsheet.specs.Said.{said};
 ghost use Rattle.laying.specs.Layings.{layout_line, Laid, settings_of};
 ghost use Rattle.laying.specs.Reports.{reported};
@@ -16,9 +16,9 @@ use bounds::settings::Settings;
 use cabled::cabled::Cabled;
 use fabric::mesh::Mesh;
 use fabric::refusal::Refusal;
-use runsheet::fault::{Fault, Layer};
-use runsheet::parts::Run;
 use runsheet::sheet::Sheet;
+use text::fault::{Fault, Layer};
+use text::parts::Run;
 
 const LAYOUT_LINE: u32 = 1;
 

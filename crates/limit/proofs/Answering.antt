@@ -10,11 +10,11 @@ use Rattle.bounds.specs.declared.limits.Limits.{Limits}
 use Rattle.bounds.specs.SetUp.{set_up_verdict}
 use Rattle.bounds.specs.Lateness.{latest, limits_of}
 use Rattle.network.proofs.Kept.{kept}
-use Rattle.sheet.specs.declared.fault.Fault.{Fault}
-use Rattle.sheet.specs.declared.fault.Layer.{Layer}
-use Rattle.sheet.specs.declared.parts.Shape.{Shape}
-use Rattle.sheet.specs.declared.parts.Run.{Run}
-use Rattle.sheet.specs.Faults.{told}
+use Rattle.text.specs.declared.fault.Fault.{Fault}
+use Rattle.text.specs.declared.fault.Layer.{Layer}
+use Rattle.text.specs.declared.parts.Shape.{Shape}
+use Rattle.text.specs.declared.parts.Run.{Run}
+use Rattle.text.specs.Faults.{told}
 use Rattle.sheet.specs.Questions.{Asked, Formed, asked_text}
 use Rattle.limit.specs.Reports.{Report, reported, then}
 use Rattle.limit.specs.Reports.Report.{answers, faults}

@@ -16,12 +16,12 @@ use Rattle.network.specs.Log.Happening.{entered}
 use Rattle.network.specs.Cycle.{State}
 use Rattle.network.specs.Runs.{Call, Leads}
 use Rattle.network.specs.Promises.{Stands, OffOnce}
-use Rattle.sheet.specs.declared.fault.Fault.{Fault}
-use Rattle.sheet.specs.declared.fault.Layer.TheVariants.{Layout, Network}
-use Rattle.sheet.specs.declared.parts.Shape.{Shape}
-use Rattle.sheet.specs.declared.parts.Shape.TheVariants.{Mesh, Cabled}
-use Rattle.sheet.specs.declared.parts.Run.{Run}
-use Rattle.sheet.specs.Faults.{told}
+use Rattle.text.specs.declared.fault.Fault.{Fault}
+use Rattle.text.specs.declared.fault.Layer.TheVariants.{Layout, Network}
+use Rattle.text.specs.declared.parts.Shape.{Shape}
+use Rattle.text.specs.declared.parts.Shape.TheVariants.{Mesh, Cabled}
+use Rattle.text.specs.declared.parts.Run.{Run}
+use Rattle.text.specs.Faults.{told}
 use Rattle.sheet.specs.Questions.{Asked, Formed, Refused, asked_text}
 use Rattle.limit.specs.declared.answer.Answer.{Answer}
 use Rattle.limit.specs.declared.answer.Answer.TheVariants.{OnMesh, OnCables}

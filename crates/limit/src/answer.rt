@@ -3,7 +3,7 @@ ghost use Rattle.std.specs.Prelude.{◌≡◌, ◌<◌, ◌≤◌, [], length, I
 ghost use Rattle.fabric.specs.Meshes.{mesh_plan};
 ghost use Rattle.fabric.specs.Refusals.{numbered};
 ghost use Rattle.cabled.specs.Plans.{plan_of};
-ghost use Rattle.sheet.specs.declared.parts.Shape.{Shape as Form};
+ghost use Rattle.text.specs.declared.parts.Shape.{Shape as Form};
 ghost use Rattle.limit.specs.Answers.{layout_line, Laid, settings_of, limited, OffWithin, Answered, meant};
 ghost use Rattle.limit.specs.Reports.{reported};
 
@@ -14,9 +14,9 @@ use fabric::layout::Layout;
 use fabric::mesh::Mesh;
 use fabric::parts::Cable;
 use fabric::refusal::Refusal;
-use sheet::fault::{Fault, Layer};
-use sheet::parts::{Run, Shape};
 use sheet::question;
+use text::fault::{Fault, Layer};
+use text::parts::{Run, Shape};
 
 const LAYOUT_LINE: u32 = 1;
 

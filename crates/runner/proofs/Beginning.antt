@@ -9,8 +9,9 @@ use Rattle.network.specs.Runs.{fresh}
 use Rattle.calls.specs.Follow.{Begins}
 use Rattle.runsheet.specs.declared.parts.Packet.{Packet}
 use Rattle.runsheet.specs.Said.{Said}
-use Rattle.runsheet.specs.Texts.{Fits}
-use Rattle.runsheet.specs.Sheets.{Sized, Formed, packet_line, cable_line}
+use Rattle.text.specs.Texts.{Fits}
+use Rattle.runsheet.specs.Sheets.{Sized, Formed, packet_line}
+use Rattle.text.specs.Lines.{cable_line}
 use Rattle.writer.specs.declared.writer.Writer.{Writer}
 use Rattle.writer.specs.Listings.{beyond}
 use Rattle.runner.specs.Tallies.{Tallied}

@@ -6,12 +6,12 @@ use Rattle.fabric.specs.Layouts.{Plan}
 use Rattle.fabric.specs.Refusals.{shown}
 use Rattle.fabric.specs.Verdicts.{Verdict, granting}
 use Rattle.fabric.specs.Verdicts.Verdict.{granted}
-use Rattle.runsheet.specs.declared.fault.Fault.{Fault}
-use Rattle.runsheet.specs.declared.fault.Layer.{Layer}
-use Rattle.runsheet.specs.Faults.{told}
+use Rattle.text.specs.declared.fault.Fault.{Fault}
+use Rattle.text.specs.declared.fault.Layer.{Layer}
+use Rattle.text.specs.Faults.{told}
 use Rattle.runsheet.specs.Said.{Said}
 use Rattle.runsheet.specs.Sheets.{SheetText}
-use Rattle.runsheet.specs.Texts.{written}
+use Rattle.text.specs.Texts.{written}
 use Rattle.laying.specs.Reports.Report.{answers, faults}
 use Rattle.laying.specs.Layings.{Laid, at_run_line}
 use Rattle.writer.specs.declared.writer.Writer.{Writer}

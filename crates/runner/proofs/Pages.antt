@@ -5,7 +5,7 @@ use Rattle.std.specs.List.{AllByRecursion}
 use Rattle.network.specs.declared.event.Event.{Event}
 use Rattle.network.specs.declared.event.Kind.{Kind}
 use Rattle.network.specs.declared.event.Kind.TheVariants.{In, Out}
-use Rattle.runsheet.specs.Texts.{Field, written, text}
+use Rattle.text.specs.Texts.{Field, written, text}
 use Rattle.writer.specs.declared.writer.Writer.{Writer}
 use Rattle.writer.specs.Listings.{listed, beyond, Appends}
 use Rattle.writer.proofs.Lengths.{length_event}

@@ -29,7 +29,7 @@ use Rattle.calls.specs.Fits.{Fits}
 use Rattle.calls.specs.Follow.{Follows, Promised}
 use Rattle.calls.proofs.Setting.{fits, ticket_below}
 use Rattle.calls.proofs.Offers.{own_ticket}
-use Rattle.runsheet.specs.Texts.{Field, written, text}
+use Rattle.text.specs.Texts.{Field, written, text}
 use Rattle.writer.specs.declared.writer.Writer.{Writer}
 use Rattle.writer.specs.Listings.{listed, beyond, Appends}
 use Rattle.runner.specs.declared.tally.Tally.{Tally}

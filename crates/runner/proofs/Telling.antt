@@ -8,7 +8,7 @@ use Rattle.fabric.specs.Verdicts.Verdict.{granted}
 use Rattle.network.specs.declared.event.Event.{Event}
 use Rattle.network.specs.declared.event.Kind.{Kind}
 use Rattle.network.specs.declared.event.Kind.TheVariants.{In, Out}
-use Rattle.runsheet.specs.Texts.{Field, written, text}
+use Rattle.text.specs.Texts.{Field, written, text}
 use Rattle.writer.specs.declared.writer.Writer.{Writer}
 use Rattle.writer.specs.Listings.{listed, beyond, Appends, LineOut, event_line}
 use Rattle.writer.proofs.Outcomes.{with_room}

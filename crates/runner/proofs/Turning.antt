@@ -9,7 +9,7 @@ use Rattle.network.specs.Cycle.{Fabric, State}
 use Rattle.network.specs.Runs.{fresh}
 use Rattle.network.specs.Promises.{puts}
 use Rattle.runsheet.specs.declared.parts.Packet.{Packet}
-use Rattle.runsheet.specs.Texts.{Field}
+use Rattle.text.specs.Texts.{Field}
 use Rattle.runsheet.specs.Sheets.{Rising}
 use Rattle.writer.specs.declared.writer.Writer.{Writer}
 use Rattle.runner.specs.declared.session.Session.{Session}

@@ -8,13 +8,13 @@ use Rattle.switch.specs.Chippers.{chipper_turn}
 use Rattle.switch.specs.Blesses.{bless_turn}
 use Rattle.bounds.specs.SetUp.{set_up_verdict}
 use Rattle.network.specs.Cycle.{Fabric}
-use Rattle.runsheet.specs.declared.fault.Fault.{Fault}
+use Rattle.text.specs.declared.fault.Fault.{Fault}
 use Rattle.runsheet.specs.declared.parts.SwitchKind.{SwitchKind}
 use Rattle.runsheet.specs.declared.parts.SwitchKind.TheVariants.{Chipper, Bless}
-use Rattle.runsheet.specs.Faults.{told}
+use Rattle.text.specs.Faults.{told}
 use Rattle.runsheet.specs.Said.{Said}
 use Rattle.runsheet.specs.Sheets.{SheetText, Refused}
-use Rattle.runsheet.specs.Texts.{written}
+use Rattle.text.specs.Texts.{written}
 use Rattle.laying.specs.Reports.{Report, then}
 use Rattle.laying.specs.Reports.Report.{answers, faults}
 use Rattle.laying.specs.Layings.{Laid, settings_of, at_run_line}

@@ -16,7 +16,7 @@ use Rattle.network.specs.Runs.Outcome.{offering, cycling, collecting}
 use Rattle.network.specs.Promises.{puts}
 use Rattle.runsheet.specs.declared.parts.Packet.{Packet}
 use Rattle.runsheet.specs.Sheets.{payload}
-use Rattle.runsheet.specs.Texts.{Field, text}
+use Rattle.text.specs.Texts.{Field, text}
 use Rattle.writer.specs.Listings.{event_line, no_line, done_line, end_line}
 
 -- Events.

@@ -17,7 +17,7 @@ use Rattle.network.specs.Promises.{puts}
 use Rattle.calls.specs.declared.tables.Tables.{Tables}
 use Rattle.calls.specs.Follow.{Follows}
 use Rattle.runsheet.specs.declared.parts.Packet.{Packet}
-use Rattle.runsheet.specs.Texts.{Field, Fits, text}
+use Rattle.text.specs.Texts.{Field, Fits, text}
 use Rattle.runsheet.specs.Sheets.{Sized, Rising, packet_line}
 use Rattle.writer.specs.declared.writer.Writer.{Writer}
 use Rattle.writer.specs.Listings.{listed, beyond}

@@ -13,13 +13,14 @@ use calls::Network;
 use fabric::layout::Layout;
 use fabric::refusal::Refusal;
 use laying::{at_run_line, lay_cables, lay_mesh, settings};
-use runsheet::fault::Fault;
-use runsheet::parts::{Packet, Shape, SwitchKind};
+use runsheet::parts::{Packet, SwitchKind};
 use runsheet::reader::read;
 use runsheet::sheet::Sheet;
 use switch::bless::Bless;
 use switch::chipper::Chipper;
 use switch::switch::Switch;
+use text::fault::Fault;
+use text::parts::Shape;
 use writer::Writer;
 
 // No listing is longer.

@@ -1,13 +1,7 @@
-mod Aligned
-mod Exits
+mod Apart
 mod Filling
 mod Following
 mod Moves
-mod Numbers
-mod Parting
 mod Payload
 mod Sections
 mod Stopped
-mod Stopping
-mod Tidy
-mod Words

@@ -1,13 +1,17 @@
 -- How a reader moves on by a line.
-use Rattle.std.proofs.Common.{◌≡◌, ℕ, ◌+◌, ◌<◌, ◌≤◌, ltb, List, [], ◌∷◌, ◌++◌, map, length, take, set, sym, refl, ap, ◌∙◌, subst, append_assoc, arith}
+use Rattle.std.proofs.Common.{◌≡◌, ℕ, ◌+◌, ◌<◌, ◌≤◌, ltb, List, [], ◌∷◌, ◌++◌, map, length, sym, refl, ap, ◌∙◌, subst, append_assoc, arith}
 use Rattle.std.specs.List.{AllByRecursion}
-use Rattle.std.proofs.lemmas.List.{length-append, length-map, length-take-le, length_push, length-set, take_more_set, map_push}
+use Rattle.std.proofs.lemmas.List.{length-append, length-map, length_push, map_push}
 use Rattle.std.proofs.ByRecursion.{All-push}
 use Rattle.std.proofs.lemmas.Bool.{cond_both, ltb-true, ltb-false}
+use Rattle.batch.specs.declared.batch.Batch.{Batch}
+use Rattle.batch.specs.Items.{items, joined}
+use Rattle.batch.proofs.Rooms.{joined_room}
 use Rattle.fabric.specs.declared.parts.Cable.{Cable as Wire}
-use Rattle.runsheet.specs.Texts.{Fits}
-use Rattle.runsheet.specs.Sheets.{Sized, Rising, shape_line, kind_line, run_line, cables_line, cable_line, packets_line, packet_line}
-use Rattle.runsheet.specs.Reading.{Draft, draft, entry_line, Suits, cabled_lines, all_lines, so_far, lines_read, Stage, latest, Valid, Filled, Sound, Grown, after, stepped}
+use Rattle.text.specs.Texts.{Fits}
+use Rattle.runsheet.specs.Sheets.{Sized, Rising, kind_line, packets_line, packet_line}
+use Rattle.text.specs.Lines.{shape_line, run_line, cables_line, cable_line}
+use Rattle.runsheet.specs.Reading.{Draft, draft, entry_line, Suits, cabled_lines, all_lines, so_far, lines_read, Stage, latest, Valid, Sound, Grown, after, stepped}
 use Rattle.runsheet.specs.declared.parts.Packet.{Packet as Plan}
 use Rattle.runsheet.specs.declared.reader.Section.{Section}
 use Rattle.runsheet.specs.declared.reader.Section.TheVariants as section
@@ -186,61 +190,54 @@ module _ (d : Draft) (x : Plan) (v : Valid d) (u : Suits d (entry.Packet x)) (f 
       (λ l. planned_to section.Packet refl (at.0, omega arith))
       (λ l. planned_to section.End refl (at.0, omega (arith, at.1)))
 
--- the filled places of a list, and one more
-pub held : {X : Type 0} (m : ℕ) (places : List X) (n : ℕ) → Filled m places n → length (take n places) ≡ n
-held m places n h = length-take-le n places (omega (arith, h.size, h.most))
-
-filled_more : {X : Type 0} (m : ℕ) (places : List X) (n : ℕ) (x : X) → Filled m places n → n < m → Filled m (set places n x) (n + 1)
-filled_more m places n x h l = record { size = length-set places n x ∙ h.size; most = omega arith }
-
-held_more : {X : Type 0} (m : ℕ) (places : List X) (n : ℕ) (x : X) → Filled m places n → n < m → take n places ++ x ∷ [] ≡ take (n + 1) (set places n x)
-held_more m places n x h l = sym (take_more_set places n x (omega (arith, h.size)))
-
 -- what holds of what was read holds of the reader
-grown : (r r' : Reader) (e : Entry) → Sound r → Moved (draft r) e (draft r') → r'.line ≡ r.line + 1 → Filled 128 r'.cables r'.wired → Filled 256 r'.packets r'.planned → Grown r e r'
-grown r r' e s m l c p =
+grown : (r r' : Reader) (e : Entry) → Sound r → Moved (draft r) e (draft r') → r'.line ≡ r.line + 1 → Grown r e r'
+grown r r' e s m l =
     record {
-      sound = record { valid = m.valid; line = l ∙ ap (λ k. k + 1) s.line ∙ sym (length_push (lines_read (draft r)) (entry_line e)) ∙ ap length (sym m.lines); cables = c; packets = p };
+      sound = record { valid = m.valid; line = l ∙ ap (λ k. k + 1) s.line ∙ sym (length_push (lines_read (draft r)) (entry_line e)) ∙ ap length (sym m.lines) };
       lines = m.lines;
     }
 
 -- the reader with a count or an item more, before it steps on
-abbrev with_wires : Reader → ℕ → Reader
-with_wires r n = record { section = r.section; line = r.line; shape = r.shape; kind = r.kind; run = r.run; cables = r.cables; wires = n; wired = r.wired; packets = r.packets; plans = r.plans; planned = r.planned; last = r.last }
+abbrev pub with_wires : Reader → ℕ → Reader
+with_wires r n = record { section = r.section; line = r.line; shape = r.shape; kind = r.kind; run = r.run; cables = r.cables; wires = n; packets = r.packets; plans = r.plans; last = r.last }
 
-abbrev with_cable : Reader → Wire → Reader
-with_cable r x = record { section = r.section; line = r.line; shape = r.shape; kind = r.kind; run = r.run; cables = set r.cables r.wired x; wires = r.wires; wired = r.wired + 1; packets = r.packets; plans = r.plans; planned = r.planned; last = r.last }
+abbrev pub with_cables : Reader → Batch Wire 128 → Reader
+with_cables r b = record { section = r.section; line = r.line; shape = r.shape; kind = r.kind; run = r.run; cables = b; wires = r.wires; packets = r.packets; plans = r.plans; last = r.last }
 
-abbrev with_plans : Reader → ℕ → Reader
-with_plans r n = record { section = r.section; line = r.line; shape = r.shape; kind = r.kind; run = r.run; cables = r.cables; wires = r.wires; wired = r.wired; packets = r.packets; plans = n; planned = r.planned; last = r.last }
+abbrev pub with_plans : Reader → ℕ → Reader
+with_plans r n = record { section = r.section; line = r.line; shape = r.shape; kind = r.kind; run = r.run; cables = r.cables; wires = r.wires; packets = r.packets; plans = n; last = r.last }
 
-abbrev with_packet : Reader → Plan → Reader
-with_packet r x = record { section = r.section; line = r.line; shape = r.shape; kind = r.kind; run = r.run; cables = r.cables; wires = r.wires; wired = r.wired; packets = set r.packets r.planned x; plans = r.plans; planned = r.planned + 1; last = x.cycle }
+abbrev pub with_packets : Reader → Batch Plan 256 → ℕ → Reader
+with_packets r b c = record { section = r.section; line = r.line; shape = r.shape; kind = r.kind; run = r.run; cables = r.cables; wires = r.wires; packets = b; plans = r.plans; last = c }
 
 module _ (r : Reader) (s : Sound r) where
-  pub put_cables : (n : ℕ) → Suits (draft r) (entry.Cables n) → n ≤ 128 → Grown r (entry.Cables n) (stepped (with_wires r n) (after r.wired n section.Cable section.Packets))
-  put_cables n u h = grown r _ (entry.Cables n) s (moved_cables (draft r) n s.valid u h r.wired (sym (held 128 r.cables r.wired s.cables))) refl s.cables s.packets
+  pub put_cables : (n : ℕ) → Suits (draft r) (entry.Cables n) → n ≤ 128 → Grown r (entry.Cables n) (stepped (with_wires r n) (after (length (items r.cables)) n section.Cable section.Packets))
+  put_cables n u h = grown r _ (entry.Cables n) s (moved_cables (draft r) n s.valid u h _ refl) refl
 
-  pub put_cable : (x : Wire) → Suits (draft r) (entry.Cable x) → AllByRecursion Fits (cable_line x) → Grown r (entry.Cable x) (stepped (with_cable r x) (after (r.wired + 1) r.wires section.Cable section.Packets))
-  put_cable x u f =
-      let at : Stage section.Cable (draft r) = subst (λ y. Stage y (draft r)) u s.valid.stage in
-      let k = held 128 r.cables r.wired s.cables in
-      let l : r.wired < 128 = omega (arith, at.0, s.valid.wires) in
+  -- a cable that may come next finds room
+  pub cable_room : (x : Wire) → Suits (draft r) (entry.Cable x) → length (items r.cables) < 128
+  cable_room x u = let at : Stage section.Cable (draft r) = subst (λ y. Stage y (draft r)) u s.valid.stage in omega (arith, at.0, s.valid.wires)
+
+  pub put_cable : (x : Wire) (b : Batch Wire 128) → items b ≡ joined 128 (items r.cables) x → Suits (draft r) (entry.Cable x) → AllByRecursion Fits (cable_line x) → Grown r (entry.Cable x) (stepped (with_cables r b) (after (length (items b)) r.wires section.Cable section.Packets))
+  put_cable x b h u f =
+      let e : items b ≡ items r.cables ++ x ∷ [] = h ∙ joined_room 128 (items r.cables) x (cable_room x u) in
       grown r _ (entry.Cable x) s
-      (subst (λ cs. Moved (draft r) (entry.Cable x) (wired_by (draft r) cs (after (r.wired + 1) r.wires section.Cable section.Packets))) (held_more 128 r.cables r.wired x s.cables l) (moved_cable (draft r) x s.valid u f (r.wired + 1) (ap (λ i. i + 1) (sym k))))
-      refl (filled_more 128 r.cables r.wired x s.cables l) s.packets
+      (subst (λ cs. Moved (draft r) (entry.Cable x) (wired_by (draft r) cs (after (length cs) r.wires section.Cable section.Packets))) (sym e) (moved_cable (draft r) x s.valid u f _ (length_push (items r.cables) x)))
+      refl
 
-  pub put_packets : (n : ℕ) → Suits (draft r) (entry.Packets n) → n ≤ 256 → Grown r (entry.Packets n) (stepped (with_plans r n) (after r.planned n section.Packet section.End))
-  put_packets n u h = grown r _ (entry.Packets n) s (moved_packets (draft r) n s.valid u h r.planned (sym (held 256 r.packets r.planned s.packets))) refl s.cables s.packets
+  pub put_packets : (n : ℕ) → Suits (draft r) (entry.Packets n) → n ≤ 256 → Grown r (entry.Packets n) (stepped (with_plans r n) (after (length (items r.packets)) n section.Packet section.End))
+  put_packets n u h = grown r _ (entry.Packets n) s (moved_packets (draft r) n s.valid u h _ refl) refl
 
-  pub put_packet : (x : Plan) → Suits (draft r) (entry.Packet x) → AllByRecursion Fits (packet_line x) → Grown r (entry.Packet x) (stepped (with_packet r x) (after (r.planned + 1) r.plans section.Packet section.End))
-  put_packet x u f =
-      let at : Stage section.Packet (draft r) = subst (λ y. Stage y (draft r)) u.0 s.valid.stage in
-      let k = held 256 r.packets r.planned s.packets in
-      let l : r.planned < 256 = omega (arith, at.1, s.valid.plans) in
+  pub packet_room : (x : Plan) → Suits (draft r) (entry.Packet x) → length (items r.packets) < 256
+  packet_room x u = let at : Stage section.Packet (draft r) = subst (λ y. Stage y (draft r)) u.0 s.valid.stage in omega (arith, at.1, s.valid.plans)
+
+  pub put_packet : (x : Plan) (b : Batch Plan 256) → items b ≡ joined 256 (items r.packets) x → Suits (draft r) (entry.Packet x) → AllByRecursion Fits (packet_line x) → Grown r (entry.Packet x) (stepped (with_packets r b x.cycle) (after (length (items b)) r.plans section.Packet section.End))
+  put_packet x b h u f =
+      let e : items b ≡ items r.packets ++ x ∷ [] = h ∙ joined_room 256 (items r.packets) x (packet_room x u) in
       grown r _ (entry.Packet x) s
-      (subst (λ ps. Moved (draft r) (entry.Packet x) (planned_by (draft r) ps x.cycle (after (r.planned + 1) r.plans section.Packet section.End))) (held_more 256 r.packets r.planned x s.packets l) (moved_packet (draft r) x s.valid u f (r.planned + 1) (ap (λ i. i + 1) (sym k))))
-      refl s.cables (filled_more 256 r.packets r.planned x s.packets l)
+      (subst (λ ps. Moved (draft r) (entry.Packet x) (planned_by (draft r) ps x.cycle (after (length ps) r.plans section.Packet section.End))) (sym e) (moved_packet (draft r) x s.valid u f _ (length_push (items r.packets) x)))
+      refl
 
 -- the entry that was put, and the reader that came of it
 pub entered : (r r' q : Reader) (e e₀ : Entry) → e ≡ e₀ → r' ≡ q → Grown r e₀ q → Grown r e r'

@@ -4,10 +4,10 @@ use Rattle.std.specs.List.{AllByRecursion}
 use Rattle.std.proofs.lemmas.List.{append-nil, append_assoc, length-append, length-map, length-take-le, get_or_append_left, get_or-map, get_or-take, drop_at, drop_more, take_more_set, map_push, nil_from_length}
 use Rattle.std.proofs.ByRecursion.{All-get_or, All-push}
 use Rattle.std.proofs.lemmas.Fmt.{decimal_injective}
-use Rattle.runsheet.specs.Texts.{Fits, number, shown}
+use Rattle.text.specs.Texts.{Fits, number, shown}
 use Rattle.runsheet.specs.Sheets.{packet_line}
 use Rattle.runsheet.specs.declared.parts.Packet.{Packet}
-use Rattle.runsheet.proofs.Exits.{after, first_of}
+use Rattle.text.proofs.Exits.{after, first_of}
 
 -- the numbers as words
 abbrev pub figures : List ℕ → List (List ℕ)

@@ -1,6 +1,6 @@
 -- A line that its section bars is none that may come next.
 use Rattle.std.proofs.Common.{ℕ, List, subst}
-use Rattle.runsheet.specs.Fields.{Unlike}
+use Rattle.text.specs.Fields.{Unlike}
 use Rattle.runsheet.specs.Reading.{Draft, entry_line, Suits, Bars}
 use Rattle.runsheet.specs.declared.reader.Entry.TheVariants as entry
 

@@ -4,19 +4,21 @@ use Rattle.std.specs.List.{AllByRecursion}
 use Rattle.std.proofs.lemmas.List.{length-append, length_push}
 use Rattle.std.proofs.ByRecursion.{All-get_or}
 use Rattle.fabric.specs.declared.parts.Cable.{Cable as Wire}
-use Rattle.runsheet.specs.Texts.{Field, Fits, row, written, text, Barred}
+use Rattle.text.specs.Texts.{Field, Fits, row, written, text, Barred}
 use Rattle.runsheet.specs.Said.{Said}
-use Rattle.runsheet.specs.Sheets.{lines, Formed, SheetText, Refused, cables_line, cable_line, packets_line, packet_line, shape_line, kind_line, run_line}
-use Rattle.runsheet.specs.Faults.{told, ill_formed, too_many, GoesOn, Stops}
+use Rattle.runsheet.specs.Sheets.{lines, Formed, SheetText, Refused, packets_line, packet_line, kind_line}
+use Rattle.text.specs.Lines.{cables_line, cable_line, shape_line, run_line}
+use Rattle.text.specs.Faults.{told, ill_formed, too_many, GoesOn, Stops}
 use Rattle.runsheet.specs.Reading.{Draft, entry_line, Suits, Exceeds, cabled_lines, so_far, lines_read, Stage, Valid, Refuses}
-use Rattle.runsheet.specs.declared.fault.Fault.{Fault}
+use Rattle.text.specs.declared.fault.Fault.{Fault}
 use Rattle.runsheet.specs.declared.parts.Packet.{Packet as Plan}
 use Rattle.runsheet.specs.declared.reader.Section.TheVariants as section
 use Rattle.runsheet.specs.declared.reader.Entry.{Entry}
 use Rattle.runsheet.specs.declared.reader.Entry.TheVariants as entry
-use Rattle.runsheet.proofs.Tidy.{Tidy, tidy_lines, tidy_cables, tidy_packets, fits_packets, same_cables, same_packets, all_left}
-use Rattle.runsheet.proofs.Aligned.{Agree, Matched, cut}
-use Rattle.runsheet.proofs.Stopping.{along, goes_on, halted, onward}
+use Rattle.text.proofs.Tidy.{Tidy, tidy_cables, same_cables}
+use Rattle.runsheet.proofs.Apart.{tidy_lines, tidy_packets, fits_packets, same_packets, all_left}
+use Rattle.text.proofs.Aligned.{Agree, Matched, cut}
+use Rattle.text.proofs.Stopping.{along, goes_on, halted, onward}
 use Rattle.runsheet.proofs.Moves.{few_cables, few_packets}
 use Rattle.runsheet.proofs.Filling.{fill, spare_wires, spare_plans, formed_fill, lines_fill, weaker, no_wires, no_plans, begun}
 use Rattle.runsheet.proofs.Following.{length_lines, next_packets, follows}

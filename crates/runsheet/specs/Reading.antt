@@ -1,15 +1,17 @@
 -- How far the reader has come, and what may come next.
 use Rattle.std.specs.Prelude.{◌≡◌, ℕ, ◌+◌, ◌<◌, ◌≤◌, cond, ◌⊎◌, List, [], ◌∷◌, ◌++◌, map, length, take, Result, MatchResult, nat_lt}
 use Rattle.std.specs.List.{AllByRecursion}
+use Rattle.batch.specs.Items.{items}
 use Rattle.fabric.specs.declared.parts.Cable.{Cable as Wire}
-use Rattle.runsheet.specs.Texts.{Field, Fits, shown, written, Barred, Any}
-use Rattle.runsheet.specs.Fields.{Unlike}
-use Rattle.runsheet.specs.Faults.{told, ill_formed, too_many}
-use Rattle.runsheet.specs.Sheets.{shape_line, kind_line, run_line, cables_line, cable_line, packets_line, packet_line, Brief, Uncabled, Sized, Rising}
-use Rattle.runsheet.specs.declared.fault.Fault.{Fault}
-use Rattle.runsheet.specs.declared.parts.Shape.{Shape}
+use Rattle.text.specs.Texts.{Field, Fits, shown, written, Barred, Any}
+use Rattle.text.specs.Fields.{Unlike}
+use Rattle.text.specs.Faults.{told, ill_formed, too_many}
+use Rattle.text.specs.Lines.{shape_line, run_line, cables_line, cable_line, Brief, Uncabled}
+use Rattle.runsheet.specs.Sheets.{kind_line, packets_line, packet_line, Sized, Rising}
+use Rattle.text.specs.declared.fault.Fault.{Fault}
+use Rattle.text.specs.declared.parts.Shape.{Shape}
 use Rattle.runsheet.specs.declared.parts.SwitchKind.{SwitchKind}
-use Rattle.runsheet.specs.declared.parts.Run.{Run as Settings}
+use Rattle.text.specs.declared.parts.Run.{Run as Settings}
 use Rattle.runsheet.specs.declared.parts.Packet.{Packet as Plan}
 use Rattle.runsheet.specs.declared.reader.Section.{Section}
 use Rattle.runsheet.specs.declared.reader.Section.TheVariants as section
@@ -46,9 +48,9 @@ draft r =
       kind = r.kind;
       run = r.run;
       wires = r.wires;
-      cables = take r.wired r.cables;
+      cables = items r.cables;
       plans = r.plans;
-      packets = take r.planned r.packets;
+      packets = items r.packets;
       last = r.last;
     }
 
@@ -153,17 +155,10 @@ pub record Valid (d : Draft) : Type 0 where
   pub last : d.last ≡ latest 0 d.packets
   pub stage : Stage d.section d
 
--- n of m places are filled
-pub record Filled {X : Type 0} (m : ℕ) (places : List X) (n : ℕ) : Type 0 where
-  pub size : length places ≡ m
-  pub most : n ≤ m
-
 -- what the reader holds is the beginning of a sheet
 pub record Sound (r : Reader) : Type 0 where
   pub valid : Valid (draft r)
   pub line : r.line ≡ length (lines_read (draft r))
-  pub cables : Filled 128 r.cables r.wired
-  pub packets : Filled 256 r.packets r.planned
 
 -- the reader after one line more
 pub record Grown (r : Reader) (e : Entry) (r' : Reader) : Type 0 where
@@ -184,10 +179,8 @@ stepped r s =
       run = r.run;
       cables = r.cables;
       wires = r.wires;
-      wired = r.wired;
       packets = r.packets;
       plans = r.plans;
-      planned = r.planned;
       last = r.last;
     }
 

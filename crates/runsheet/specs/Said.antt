@@ -1,9 +1,10 @@
 -- What a sheet says, as its lines give it.
-use Rattle.std.specs.Prelude.{List, take}
+use Rattle.std.specs.Prelude.{List}
+use Rattle.batch.specs.Items.{items}
 use Rattle.fabric.specs.declared.parts.Cable.{Cable}
-use Rattle.runsheet.specs.declared.parts.Shape.{Shape}
+use Rattle.text.specs.declared.parts.Shape.{Shape}
 use Rattle.runsheet.specs.declared.parts.SwitchKind.{SwitchKind}
-use Rattle.runsheet.specs.declared.parts.Run.{Run}
+use Rattle.text.specs.declared.parts.Run.{Run}
 use Rattle.runsheet.specs.declared.parts.Packet.{Packet}
 use Rattle.runsheet.specs.declared.sheet.Sheet.{Sheet}
 
@@ -15,4 +16,4 @@ pub record Said : Type 0 where
   pub packets : List Packet
 
 abbrev pub said : Sheet → Said
-said s = record { shape = s.shape; kind = s.kind; run = s.run; cables = take s.wires s.cables; packets = take s.planned s.packets }
+said s = record { shape = s.shape; kind = s.kind; run = s.run; cables = items s.cables; packets = items s.packets }

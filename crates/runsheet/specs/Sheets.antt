@@ -1,23 +1,14 @@
 -- A run sheet, and its one text.
 use Rattle.std.specs.Prelude.{◌≡◌, ℕ, ◌^◌, ◌≤◌, List, [], ◌∷◌, ◌++◌, map, length, take, codes}
 use Rattle.std.specs.List.{AllByRecursion}
-use Rattle.fabric.specs.Ports.{letter}
-use Rattle.fabric.specs.declared.parts.Slot.{Slot}
-use Rattle.fabric.specs.declared.parts.Cable.{Cable}
-use Rattle.runsheet.specs.Texts.{Field, word, number, Fits, text}
-use Rattle.runsheet.specs.Faults.{Faulty}
+use Rattle.text.specs.Texts.{Field, word, number, Fits, text}
+use Rattle.text.specs.Faults.{Faulty}
+use Rattle.text.specs.Lines.{shape_line, run_line, cables_line, cable_line, Brief, Uncabled}
+use Rattle.text.specs.declared.fault.Fault.{Fault}
 use Rattle.runsheet.specs.Said.{Said}
-use Rattle.runsheet.specs.declared.fault.Fault.{Fault}
-use Rattle.runsheet.specs.declared.parts.Shape.{Shape}
-use Rattle.runsheet.specs.declared.parts.Shape.TheVariants.{Mesh, Cabled}
-use Rattle.runsheet.specs.declared.parts.Run.{Run}
 use Rattle.runsheet.specs.declared.parts.SwitchKind.{SwitchKind}
 use Rattle.runsheet.specs.declared.parts.SwitchKind.TheVariants.{Chipper, Bless}
 use Rattle.runsheet.specs.declared.parts.Packet.{Packet}
-
-abbrev pub shape_line : Shape → List Field
-shape_line (Mesh w h) = word (codes "mesh") ∷ number w ∷ number h ∷ []
-shape_line (Cabled n) = word (codes "cabled") ∷ number n ∷ []
 
 abbrev pub kind_word : SwitchKind → List ℕ
 kind_word Chipper = codes "chipper"
@@ -25,18 +16,6 @@ kind_word Bless = codes "bless"
 
 abbrev pub kind_line : SwitchKind → List Field
 kind_line k = word (codes "switch") ∷ word (kind_word k) ∷ []
-
-abbrev pub run_line : Run → List Field
-run_line r = word (codes "run") ∷ number r.tickets ∷ number r.words ∷ number r.epoch ∷ number r.seed ∷ number r.cycles ∷ []
-
-abbrev pub cables_line : ℕ → List Field
-cables_line n = word (codes "cables") ∷ number n ∷ []
-
-abbrev pub slot_fields : Slot → List Field
-slot_fields s = number s.node ∷ word (letter s.port) ∷ []
-
-abbrev pub cable_line : Cable → List Field
-cable_line c = slot_fields c.one ++ slot_fields c.other
 
 abbrev pub packets_line : ℕ → List Field
 packets_line n = word (codes "packets") ∷ number n ∷ []
@@ -53,15 +32,6 @@ abbrev pub lines : Said → List (List Field)
 lines s =
     shape_line s.shape ∷ kind_line s.kind ∷ run_line s.run ∷ cables_line (length s.cables)
     ∷ (map cable_line s.cables ++ packets_line (length s.packets) ∷ map packet_line s.packets)
-
--- the run's cycles are within their limit
-abbrev pub Brief : Run → Type 0
-Brief r = r.cycles ≤ 65535
-
--- a mesh has no cables
-abbrev pub Uncabled : Shape → ℕ → Type 0
-Uncabled (Mesh w h) n = n ≡ 0
-Uncabled (Cabled m) n = Unit {0}
 
 -- one to four words, of the four places that a packet has
 pub record Sized (p : Packet) : Type 0 where

@@ -1,9 +1,6 @@
 // Run sheets: what they say where they are of their form, and their faults where they are not.
 #![tactic(auto)]
 
-pub mod fault;
-mod field;
-mod number;
 pub mod parts;
 pub mod reader;
 mod rows;

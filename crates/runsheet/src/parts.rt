@@ -1,40 +1,18 @@
-// What the lines of a sheet say.
-
-// The cables that a sheet has at most.
-pub(crate) const MOST_CABLES: usize = 128;
+// What the lines say that only sheets have.
 
 // The packets that a sheet has at most.
 pub(crate) const MOST_PACKETS: usize = 256;
 
-// The layout's line: a mesh of so many columns and rows, or so many nodes joined by cables.
-#[derive(Clone, Copy, PartialEq, Eq, Debug)]
-pub enum Shape {
-    Mesh { width: u32, height: u32 },
-    Cabled { nodes: u32 },
-}
-
-// The run's line: the settings of the network, and the cycles to carry out.
-#[derive(Clone, Copy, PartialEq, Eq, Debug)]
-pub struct Run {
-    // the tickets of each node
-    pub tickets: u32,
-    // the words that a packet has at most
-    pub words: u32,
-    // the cycles for which a ticket is golden
-    pub epoch: u32,
-    pub seed: u32,
-    pub cycles: u32,
-}
-
 // The switch's line: the kind of switch that every node has.
-#[derive(Clone, Copy, PartialEq, Eq, Debug)]
+#[derive(Clone, Copy, PartialEq, Eq, Debug, Default)]
 pub enum SwitchKind {
+    #[default]
     Chipper,
     Bless,
 }
 
 // A planned packet: when it is offered and by whom, and its words, the first `count` of four.
-#[derive(Clone, Copy, PartialEq, Eq, Debug)]
+#[derive(Clone, Copy, PartialEq, Eq, Debug, Default)]
 pub struct Packet {
     pub cycle: u32,
     pub node: u32,

@@ -1,48 +1,23 @@
 // The reader of run sheets judges each line by the section that it is in.
 ghost use Rattle.std.specs.Prelude.{◌≡◌, ◌+◌, ◌≤◌, MatchResult};
 ghost use Rattle.std.specs.List.{AllByRecursion};
-ghost use Rattle.runsheet.specs.Faults.{told, too_many};
-ghost use Rattle.runsheet.specs.Texts.{parted, Fits};
+ghost use Rattle.text.specs.Faults.{told, too_many};
+ghost use Rattle.text.specs.Texts.{parted, Fits};
 ghost use Rattle.runsheet.specs.Said.{said};
 ghost use Rattle.runsheet.specs.Sheets.{SheetText, Refused};
 ghost use Rattle.runsheet.specs.Reading.{entry_line, draft, Suits, Judges, Within, Exceeds, Sound, Grown, Reached, Refuses, after, stepped};
 
-use super::fault::Fault;
-use super::field::{Fields, find, is};
-use super::parts::{MOST_CABLES, MOST_PACKETS, Packet, Run, Shape, SwitchKind};
+use super::parts::{MOST_PACKETS, Packet, SwitchKind};
 use super::rows;
 use super::sheet::Sheet;
-use fabric::parts::{Cable, Port, Slot};
+use batch::Batch;
+use fabric::parts::Cable;
+use text::fault::Fault;
+use text::field::{Fields, find, is};
+use text::parts::{MOST_CABLES, Run, Shape};
+use text::rows as shared;
 
 const MOST_BYTES: usize = 65536;
-
-// What stands where nothing is read yet.
-const NO_SLOT: Slot = Slot {
-    node: 0,
-    port: Port::N,
-};
-
-const NO_CABLE: Cable = Cable {
-    one: NO_SLOT,
-    other: NO_SLOT,
-};
-
-const NO_PACKET: Packet = Packet {
-    cycle: 0,
-    node: 0,
-    own: 0,
-    destination: 0,
-    count: 0,
-    words: [0; 4],
-};
-
-const NO_RUN: Run = Run {
-    tickets: 0,
-    words: 0,
-    epoch: 0,
-    seed: 0,
-    cycles: 0,
-};
 
 // What the next line has to be.
 #[derive(Clone, Copy)]
@@ -84,8 +59,7 @@ fn check_limit(entry: Entry, line: u32) -> Result<(), Fault>
     Ok(())
 }
 
-// What was read of a sheet: `line` lines, of at most 389, among them the first `wired` of `wires`
-// cables and the first `planned` of `plans` packets.
+// What was read of a sheet: `line` lines, of at most 389, among them the first of `wires` cables and of `plans` packets.
 #[derive(Drop)]
 struct Reader {
     section: Section,
@@ -93,12 +67,10 @@ struct Reader {
     shape: Shape,
     kind: SwitchKind,
     run: Run,
-    cables: [Cable; MOST_CABLES],
+    cables: Batch<Cable, MOST_CABLES>,
     wires: usize,
-    wired: usize,
-    packets: [Packet; MOST_PACKETS],
+    packets: Batch<Packet, MOST_PACKETS>,
     plans: usize,
-    planned: usize,
     // the cycle of the last packet
     last: u32,
 }
@@ -110,18 +82,14 @@ impl Reader {
         Reader {
             section: Section::Layout,
             line: 0,
-            shape: Shape::Mesh {
-                width: 0,
-                height: 0,
-            },
-            kind: SwitchKind::Chipper,
-            run: NO_RUN,
-            cables: [NO_CABLE; MOST_CABLES],
+            // a blank until its line is read, as all that follows
+            shape: Shape::Cabled { nodes: 0 },
+            kind: SwitchKind::default(),
+            run: Run::default(),
+            cables: Batch::new(Cable::default()),
             wires: 0,
-            wired: 0,
-            packets: [NO_PACKET; MOST_PACKETS],
+            packets: Batch::new(Packet::default()),
             plans: 0,
-            planned: 0,
             last: 0,
         }
     }
@@ -136,18 +104,18 @@ impl Reader {
         let mut fields = Fields::new(bytes, line);
         let word = fields.word()?;
         match (self.section, word) {
-            (Section::Layout, w) if is(w, b"mesh") => Ok(Entry::Shape(rows::mesh(&mut fields)?)),
-            (Section::Layout, w) if is(w, b"cabled") => Ok(Entry::Shape(rows::cabled(
+            (Section::Layout, w) if is(w, b"mesh") => Ok(Entry::Shape(shared::mesh(&mut fields)?)),
+            (Section::Layout, w) if is(w, b"cabled") => Ok(Entry::Shape(shared::cabled(
                 &mut fields,
             )?)),
             (Section::Switch, w) if is(w, b"switch") => Ok(Entry::Kind(rows::switch(&mut fields)?)),
-            (Section::Run, w) if is(w, b"run") => Ok(Entry::Run(rows::run(&mut fields)?)),
+            (Section::Run, w) if is(w, b"run") => Ok(Entry::Run(shared::run(&mut fields)?)),
             (Section::Cables, w) if is(w, b"cables") => Ok(Entry::Cables(rows::cables(
                 &mut fields,
                 self.shape,
             )?)),
-            (Section::Cable, _) => Ok(Entry::Cable(rows::cable(&mut Fields::new(bytes, line))?)),
-            (Section::Packets, w) if is(w, b"packets") => Ok(Entry::Packets(rows::count(
+            (Section::Cable, _) => Ok(Entry::Cable(shared::cable(&mut Fields::new(bytes, line))?)),
+            (Section::Packets, w) if is(w, b"packets") => Ok(Entry::Packets(shared::count(
                 &mut fields,
             )?)),
             (Section::Packet, _) => Ok(Entry::Packet(rows::packet(
@@ -167,28 +135,12 @@ impl Reader {
         self.line += 1;
     }
 
-    // On to the next cable, or past them.
-    fn go_cables(&mut self)
+    // On to the next item of a list while fewer are read than were told, or past the list.
+    fn go_on(&mut self, read: usize, told: usize, item: Section, past: Section)
         requires { self.old.line ≤ 389 }
-        ensures { self.new ≡ stepped self.old (after self.old.wired self.old.wires Section.Cable Section.Packets) }
+        ensures { self.new ≡ stepped self.old (after read told item past) }
     {
-        if self.wired < self.wires {
-            self.go(Section::Cable)
-        } else {
-            self.go(Section::Packets)
-        }
-    }
-
-    // On to the next packet, or past them.
-    fn go_packets(&mut self)
-        requires { self.old.line ≤ 389 }
-        ensures { self.new ≡ stepped self.old (after self.old.planned self.old.plans Section.Packet Section.End) }
-    {
-        if self.planned < self.plans {
-            self.go(Section::Packet)
-        } else {
-            self.go(Section::End)
-        }
+        self.go(if read < told { item } else { past })
     }
 
     // Takes in what a line says.
@@ -212,22 +164,24 @@ impl Reader {
             }
             Entry::Cables(count) => {
                 self.wires = count;
-                self.go_cables()
+                let read = self.cables.len();
+                self.go_on(read, count, Section::Cable, Section::Packets)
             }
             Entry::Cable(cable) => {
-                self.cables[self.wired] = cable;
-                self.wired += 1;
-                self.go_cables()
+                self.cables.push(cable).unwrap();
+                let (read, told) = (self.cables.len(), self.wires);
+                self.go_on(read, told, Section::Cable, Section::Packets)
             }
             Entry::Packets(count) => {
                 self.plans = count;
-                self.go_packets()
+                let read = self.packets.len();
+                self.go_on(read, count, Section::Packet, Section::End)
             }
             Entry::Packet(packet) => {
-                self.packets[self.planned] = packet;
-                self.planned += 1;
+                self.packets.push(packet).unwrap();
                 self.last = packet.cycle;
-                self.go_packets()
+                let (read, told) = (self.packets.len(), self.plans);
+                self.go_on(read, told, Section::Packet, Section::End)
             }
         }
     }
@@ -266,9 +220,7 @@ pub fn read(bytes: &[u8]) -> Result<Sheet, Fault>
             reader.kind,
             reader.run,
             reader.cables,
-            reader.wired,
             reader.packets,
-            reader.planned,
         )),
         _ => Err(Fault::ill_formed(reader.line + 1)),
     }

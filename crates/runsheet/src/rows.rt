@@ -1,72 +1,38 @@
-// What each kind of line says, after its first word if that is fixed.
-ghost use Rattle.std.specs.Prelude.{◌≡◌, ◌≤◌, [], ◌∷◌, map, length, take, codes};
-ghost use Rattle.runsheet.specs.Fields.{words, Reads, Begins};
-ghost use Rattle.runsheet.specs.Texts.{number, Any};
-ghost use Rattle.runsheet.specs.Sheets.{shape_line, kind_line, run_line, Brief, cables_line, Uncabled, slot_fields, cable_line, packet_line, Sized};
+// What the lines say that only sheets have, after their first word if that is fixed.
+ghost use Rattle.std.specs.Prelude.{◌≡◌, ℕ, ◌≤◌, List, ◌∷◌, map, length, take, MatchResult, ◌≢◌, codes};
+ghost use Rattle.text.specs.Fields.{words, Reads, Begins};
+ghost use Rattle.text.specs.Texts.{number, Any};
+ghost use Rattle.text.specs.Faults.{told, ill_formed};
+ghost use Rattle.text.specs.Lines.{cables_line, Uncabled};
+ghost use Rattle.runsheet.specs.Sheets.{kind_word, kind_line, packet_line, Sized};
+ghost use Rattle.runsheet.specs.declared.parts.SwitchKind.{SwitchKind as Kind};
 
-use super::fault::Fault;
-use super::field::Fields;
-use super::parts::{Packet, Run, Shape, SwitchKind};
-use fabric::parts::{Cable, Slot};
-
-const MOST_CYCLES: u32 = 65535;
+use super::parts::{Packet, SwitchKind};
+use text::fault::Fault;
+use text::field::{Fields, is};
+use text::parts::Shape;
+use text::rows::count;
 
 const MOST_WORDS: u32 = 4;
 
-pub(crate) fn mesh(fields: &mut Fields) -> Result<Shape, Fault>
-    ensures { Reads shape_line Any (codes "mesh" ∷ words fields.old) fields.old.line result }
+// The next field, the name of a kind of switch.
+fn kind(fields: &mut Fields) -> Result<SwitchKind, Fault>
+    ensures words { MatchResult result (λ k. words fields.old ≡ kind_word k ∷ words fields.new) (λ f. (told f ≡ ill_formed fields.old.line) × ((k : Kind) (ws : List (List ℕ)) → words fields.old ≢ kind_word k ∷ ws)) }
+    ensures line { fields.new.line ≡ fields.old.line }
 {
-    let width = fields.number()?;
-    let height = fields.number()?;
-    fields.end()?;
-    Ok(Shape::Mesh { width, height })
-}
-
-pub(crate) fn cabled(fields: &mut Fields) -> Result<Shape, Fault>
-    ensures { Reads shape_line Any (codes "cabled" ∷ words fields.old) fields.old.line result }
-{
-    let nodes = fields.number()?;
-    fields.end()?;
-    Ok(Shape::Cabled { nodes })
+    match fields.word()? {
+        w if is(w, b"chipper") => Ok(SwitchKind::Chipper),
+        w if is(w, b"bless") => Ok(SwitchKind::Bless),
+        _ => Err(fields.fault()),
+    }
 }
 
 pub(crate) fn switch(fields: &mut Fields) -> Result<SwitchKind, Fault>
     ensures { Reads kind_line Any (codes "switch" ∷ words fields.old) fields.old.line result }
 {
-    let kind = fields.kind()?;
+    let kind = kind(fields)?;
     fields.end()?;
     Ok(kind)
-}
-
-pub(crate) fn run(fields: &mut Fields) -> Result<Run, Fault>
-    ensures { Reads run_line Brief (codes "run" ∷ words fields.old) fields.old.line result }
-{
-    let tickets = fields.number()?;
-    let words = fields.number()?;
-    let epoch = fields.number()?;
-    let seed = fields.number()?;
-    let cycles = fields.number()?;
-    if cycles > MOST_CYCLES {
-        return Err(fields.fault());
-    }
-    fields.end()?;
-    Ok(Run {
-        tickets,
-        words,
-        epoch,
-        seed,
-        cycles,
-    })
-}
-
-// The count that a list begins with.
-pub(crate) fn count(fields: &mut Fields) -> Result<usize, Fault>
-    ensures words { Reads (λ n. number n ∷ []) Any (words fields.old) fields.old.line result }
-    ensures line { fields.new.line ≡ fields.old.line }
-{
-    let count = fields.number()? as usize;
-    fields.end()?;
-    Ok(count)
 }
 
 // A mesh has no cables.
@@ -78,25 +44,6 @@ pub(crate) fn cables(fields: &mut Fields, shape: Shape) -> Result<usize, Fault>
         Shape::Mesh { .. } if count > 0 => Err(fields.fault()),
         _ => Ok(count),
     }
-}
-
-// A node and a port, with which a line begins or goes on.
-fn slot(fields: &mut Fields) -> Result<Slot, Fault>
-    ensures words { Begins slot_fields Any (words fields.old) (words fields.new) fields.old.line result }
-    ensures line { fields.new.line ≡ fields.old.line }
-{
-    let node = fields.number()? as usize;
-    let port = fields.port()?;
-    Ok(Slot { node, port })
-}
-
-pub(crate) fn cable(fields: &mut Fields) -> Result<Cable, Fault>
-    ensures { Reads cable_line Any (words fields.old) fields.old.line result }
-{
-    let one = slot(fields)?;
-    let other = slot(fields)?;
-    fields.end()?;
-    Ok(Cable { one, other })
 }
 
 // The words of a packet, `count` of them.

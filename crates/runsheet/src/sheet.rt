@@ -1,8 +1,8 @@
 // A run sheet, as it was read.
-ghost use Rattle.std.specs.Prelude.{◌≤◌};
-
-use super::parts::{MOST_CABLES, MOST_PACKETS, Packet, Run, Shape, SwitchKind};
+use super::parts::{MOST_PACKETS, Packet, SwitchKind};
+use batch::Batch;
 use fabric::parts::Cable;
+use text::parts::{MOST_CABLES, Run, Shape};
 
 mod methods;
 
@@ -12,10 +12,6 @@ pub struct Sheet {
     pub shape: Shape,
     pub kind: SwitchKind,
     pub run: Run,
-    cables: [Cable; MOST_CABLES],
-    wires: usize,
-    packets: [Packet; MOST_PACKETS],
-    planned: usize,
-    ghost wired: { wires ≤ 128 },
-    ghost few: { planned ≤ 256 },
+    cables: Batch<Cable, MOST_CABLES>,
+    packets: Batch<Packet, MOST_PACKETS>,
 }

@@ -5,20 +5,23 @@ use Rattle.std.proofs.lemmas.List.{length-append, length-replicate, length-take-
 use Rattle.std.proofs.ByRecursion.{All-append, All-get_or, All-map}
 use Rattle.fabric.specs.declared.parts.Cable.{Cable}
 use Rattle.fabric.specs.declared.parts.Port.TheVariants.{N}
-use Rattle.sheet.specs.Texts.{Field, Fits, Lined, Barred, shown, row, written, Any}
-use Rattle.sheet.specs.Fields.{words}
-use Rattle.sheet.specs.Faults.{told, ill_formed, too_many}
-use Rattle.sheet.specs.Questions.{Asked, shape_line, run_line, cables_line, cable_line, count_lines, lines, Brief, Uncabled, Formed, asked_text, Refused}
+use Rattle.text.specs.Texts.{Field, Fits, Lined, Barred, shown, row, written, Any}
+use Rattle.text.specs.Fields.{words}
+use Rattle.text.specs.Faults.{told, ill_formed, too_many}
+use Rattle.sheet.specs.Questions.{Asked, count_lines, lines, Formed, asked_text, Refused}
+use Rattle.text.specs.Lines.{shape_line, run_line, cables_line, cable_line, Brief, Uncabled}
 use Rattle.sheet.specs.Reading.{Over, Between, Miscounted, Fitting, Unwired}
-use Rattle.sheet.specs.declared.fault.Fault.{Fault}
-use Rattle.sheet.specs.declared.field.Fields.{Fields}
+use Rattle.text.specs.declared.fault.Fault.{Fault}
+use Rattle.text.specs.declared.field.Fields.{Fields}
 use Rattle.sheet.specs.declared.lines.Lines.{Lines}
-use Rattle.sheet.specs.declared.parts.Shape.{Shape}
-use Rattle.sheet.specs.declared.parts.Shape.TheVariants.{Mesh, Cabled}
-use Rattle.sheet.specs.declared.parts.Run.{Run}
-use Rattle.sheet.proofs.Aligned.{Agree, Next, Matched, cut}
-use Rattle.sheet.proofs.Tidy.{Tidy, tidy_shape, tidy_run, tidy_count, tidy_rest, tidy_lines, same_count, same_shape}
-use Rattle.sheet.proofs.Stopping.{along, goes_on, halted, over_none, over_line, over_both}
+use Rattle.text.specs.declared.parts.Shape.{Shape}
+use Rattle.text.specs.declared.parts.Shape.TheVariants.{Mesh, Cabled}
+use Rattle.text.specs.declared.parts.Run.{Run}
+use Rattle.text.proofs.Aligned.{Agree, Next, Matched, cut}
+use Rattle.text.proofs.Tidy.{Tidy, tidy_shape, tidy_run, tidy_cables, same_cables, same_uncabled}
+use Rattle.sheet.proofs.Apart.{tidy_rest, tidy_lines, same_shape}
+use Rattle.text.proofs.Stopping.{along, goes_on, halted, onward}
+use Rattle.sheet.proofs.Going.{over_none, over_line, over_both}
 
 -- a run that any layout may have, and cables that fill up a count
 spare_run : Run
@@ -65,10 +68,10 @@ formed_bare x h = formed x spare_run [] 128 h (tt, (omega arith, (omega arith, (
 -- the lines of a question that agrees on the layout
 module _ (x : Shape) (h : AllByRecursion Fits (shape_line x)) (q : Asked) (F : Formed (2 ^ 32) q) (e : row (shape_line x) ≡ row (shape_line q.shape)) where
   alike : lines q ≡ shape_line q.shape ∷ run_line q.run ∷ (count_lines x (length q.cables) ++ map cable_line q.cables)
-  alike = ap (λ A. shape_line q.shape ∷ run_line q.run ∷ (A ++ map cable_line q.cables)) (same_shape x q.shape h F.numbers.0 e (length q.cables)).0
+  alike = ap (λ A. shape_line q.shape ∷ run_line q.run ∷ (A ++ map cable_line q.cables)) (same_shape x q.shape (length q.cables) h F.numbers.0 e)
 
   alike_uncabled : Uncabled x (length q.cables)
-  alike_uncabled = (same_shape x q.shape h F.numbers.0 e (length q.cables)).1 F.uncabled
+  alike_uncabled = same_uncabled x q.shape (length q.cables) h F.numbers.0 e F.uncabled
 
   alike_fits : (m : ℕ) → x ≡ Cabled m → AllByRecursion Fits (cables_line (length q.cables))
   alike_fits m y = (subst (λ A. AllByRecursion (AllByRecursion Fits) A) (alike ∙ ap (λ z. shape_line q.shape ∷ run_line q.run ∷ (count_lines z (length q.cables) ++ map cable_line q.cables)) y) F.numbers).1.1.0
@@ -81,7 +84,7 @@ same_length (Mesh w v) h y cs G p F a =
 same_length (Cabled n) h y cs G p F a =
     let e = a 0 (omega arith) in
     let r = a 2 (omega arith) ∙ ap (λ A. row (get_or A 2 [])) (alike (Cabled n) h p F e) in
-    let s = same_count (length cs) (length p.cables) G.numbers.1.1.0 (alike_fits (Cabled n) h p F e n refl) r in
+    let s = same_cables (length cs) (length p.cables) G.numbers.1.1.0 (alike_fits (Cabled n) h p F e n refl) r in
     ap length (alike (Cabled n) h p F e) ∙ (let l = length-map p.cables cable_line in let m = length-map cs cable_line in omega arith)
 
 -- what was read of the text bs, up to s: the layout and the run, the count of cables, and the cables
@@ -130,12 +133,12 @@ tallied bs s t x y n a k =
       most = k.2;
     }
 
-pub wholly : (bs : List ℕ) (s t : Lines) (x : Shape) (y : Run) (n : ℕ) (cs : List Cable) → Tallied bs x y n s → Between (map cable_line (take n cs)) s t × Fitting (take n cs) × (length cs ≡ 128) → Whole bs (ask x y (take n cs)) t
+pub wholly : (bs : List ℕ) (s t : Lines) (x : Shape) (y : Run) (n : ℕ) (cs : List Cable) → Tallied bs x y n s → Between (map cable_line cs) s t × Fitting cs × (length cs ≡ n) → Whole bs (ask x y cs) t
 wholly bs s t x y n cs a w =
-    let e : length (take n cs) ≡ n = length-take-le n cs (omega (arith, a.most, w.2)) in
+    let e = w.2 in
     record {
-      formed = formed x y (take n cs) 128 a.shape a.run a.brief w.1 (subst (Uncabled x) (sym e) a.uncabled) (omega (arith, a.most)) (omega (arith, a.most));
-      over = over_both (shape_line x ∷ run_line y ∷ count_lines x (length (take n cs))) (map cable_line (take n cs)) bs s.rest.now t.rest.now 0 s.read t.read (subst (λ i. Over (shape_line x ∷ run_line y ∷ count_lines x i) bs 0 s.rest.now s.read) (sym e) a.over) w.0;
+      formed = formed x y cs 128 a.shape a.run a.brief w.1 (subst (Uncabled x) (sym e) a.uncabled) (omega (arith, a.most)) (omega (arith, a.most));
+      over = over_both (shape_line x ∷ run_line y ∷ count_lines x (length cs)) (map cable_line cs) bs s.rest.now t.rest.now 0 s.read t.read (subst (λ i. Over (shape_line x ∷ run_line y ∷ count_lines x i) bs 0 s.rest.now s.read) (sym e) a.over) w.0;
     }
 
 pub finished : (bs : List ℕ) (s : Lines) (p q : Asked) → Whole bs p s → q ≡ p → s.rest.now ≡ [] → Formed 128 q × (bs ≡ asked_text q)
@@ -146,7 +149,14 @@ finished bs s p q a e z = (
 
 module _ (bs rest : List ℕ) (j : ℕ) (f : Fault) (short : length bs ≤ 65536) (at : told f ≡ ill_formed (j + 1)) where
   stop : (A Z : List (List Field)) (q : Asked) → Over A bs 0 rest j → Formed 128 q → lines q ≡ A ++ Z → AllByRecursion Tidy A → ((p : Asked) → Formed (2 ^ 32) p → Matched A (lines p) rest → ⊥) → Refused bs f
-  stop A Z q o F z = halted lines A bs rest j o (Formed 128) (Formed (2 ^ 32)) f q Z short weaker tidied F z at
+  stop A Z q o F z t none =
+      inr (
+        short,
+        (
+          length A,
+          halted lines A bs rest o.bytes (Formed 128) (Formed (2 ^ 32)) f q Z weaker tidied F z (at ∙ ap (λ k. ill_formed (k + 1)) (let y : j ≡ length A = omega (arith, o.read) in y)) t none,
+        ),
+      )
 
   pub no_shape : rest ≡ bs → j ≡ 0 → Barred shape_line Any rest → Refused bs f
   no_shape e z b =
@@ -179,23 +189,23 @@ module _ (bs rest : List ℕ) (j : ℕ) (f : Fault) (short : length bs ≤ 65536
         (
           2,
           record {
-            before = along lines A bs rest j o (Formed 128) (ask (Cabled m) y []) _ (formed (Cabled m) y [] 128 h k c tt tt (omega arith) (omega arith)) refl;
+            before = along lines A bs rest o.bytes (Formed 128) (ask (Cabled m) y []) _ (formed (Cabled m) y [] 128 h k c tt tt (omega arith) (omega arith)) refl;
             ends = λ d.
                 let F = weaker d.0 d.1 in
-                let M = goes_on lines A bs rest j o (Formed 128) (λ q G. tidied q (weaker q G)) (tidy_shape (Cabled m) h, (tidy_run y k, tt)) d in
+                let M = goes_on lines A bs rest o.bytes (Formed 128) (λ q G. tidied q (weaker q G)) (tidy_shape (Cabled m) h, (tidy_run y k, tt)) d in
                 let e = M.0 0 (omega arith) in
                 let z = alike_fits (Cabled m) h d.0 F e m refl in
                 ⊎_elim
                 (λ i. omega (arith, i.0))
                 (λ i.
-                let s = same_count n (length d.0.cables) g z (cut (row (cables_line n)) (row (cables_line (length d.0.cables))) more i.1.0 (tidy_count n g).ends (tidy_count (length d.0.cables) z).ends
+                let s = same_cables n (length d.0.cables) g z (cut (row (cables_line n)) (row (cables_line (length d.0.cables))) more i.1.0 (tidy_cables n g).ends (tidy_cables (length d.0.cables) z).ends
                 (sym (append_assoc (row (cables_line n)) (10 ∷ []) more) ∙ sym w ∙ i.1.1 ∙ append_assoc (row (cables_line (length d.0.cables))) (10 ∷ []) i.1.0)).0 in
                 omega (arith, d.1.cables))
                 (subst (λ B. Next B 2 rest) (alike (Cabled m) h d.0 F e) M.1);
             fault = inr (
               at ∙ ap (λ i. too_many (i + 1)) (let z : j ≡ 2 = omega (arith, o.read) in z),
-              along lines (A ++ cables_line n ∷ []) bs more (j + 1)
-                  (over_both A (cables_line n ∷ []) bs rest more 0 j (j + 1) o (record { bytes = w ∙ ap (λ q. q ++ more) (sym (append-nil (written (cables_line n)))); read = refl }))
+              along lines (A ++ cables_line n ∷ []) bs more
+                  (onward A (A ++ cables_line n ∷ []) (cables_line n) bs rest more o.bytes refl w)
                   (Formed (2 ^ 32)) (ask (Cabled m) y (replicate n spare)) (map cable_line (replicate n spare))
                   (formed (Cabled m) y (replicate n spare) (2 ^ 32) h k c (spares n) tt (omega (arith, g.1.0)) (omega (arith, g.1.0)))
                   (ap (λ i. shape_line (Cabled m) ∷ run_line y ∷ cables_line i ∷ map cable_line (replicate n spare)) r),
@@ -219,7 +229,7 @@ module _ (bs rest : List ℕ) (j : ℕ) (f : Fault) (short : length bs ≤ 65536
       let a = alike (Cabled m) h p F e in
       let ps = map cable_line p.cables in
       let i = length (map cable_line cs) in
-      let s = same_count n (length p.cables) fits (alike_fits (Cabled m) h p F e m refl) (M.0 2 (omega arith) ∙ ap (λ A. row (get_or A 2 [])) a) in
+      let s = same_cables n (length p.cables) fits (alike_fits (Cabled m) h p F e m refl) (M.0 2 (omega arith) ∙ ap (λ A. row (get_or A 2 [])) a) in
       let d = length-map cs cable_line in
       let q = length-map p.cables cable_line in
       let line = get_or-map cable_line p.cables i spare [] (omega arith) in

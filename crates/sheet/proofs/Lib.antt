@@ -1,9 +1,4 @@
-mod Aligned
+mod Apart
 mod Asking
-mod Exits
-mod Numbers
-mod Parting
-mod Stopping
-mod Tidy
+mod Going
 mod Wiring
-mod Words

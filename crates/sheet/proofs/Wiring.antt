@@ -1,20 +1,21 @@
 -- The lines of the cables, and the line of their count.
-use Rattle.std.proofs.Common.{◌≡◌, ℕ, ◌+◌, ◌<◌, List, [], map, length, take, set, Ok, Err, Result, sym, refl, ap, ◌∙◌, subst, inl, inr, ⊎_elim, arith}
+use Rattle.std.proofs.Common.{◌≡◌, ℕ, ◌+◌, ◌<◌, List, [], ◌∷◌, ◌++◌, map, length, Ok, Err, Result, sym, refl, ap, ◌∙◌, subst, inl, inr, ⊎_elim, arith}
 use Rattle.std.specs.List.{AllByRecursion}
-use Rattle.std.proofs.lemmas.List.{length-take-le, take_more_set, map_push}
+use Rattle.std.proofs.lemmas.List.{map_push}
 use Rattle.std.proofs.ByRecursion.{All-push}
 use Rattle.fabric.specs.declared.parts.Cable.{Cable}
-use Rattle.sheet.specs.Texts.{Fits, Free, Lined, Barred, shown, Any}
-use Rattle.sheet.specs.Faults.{told, ill_formed, too_many}
-use Rattle.sheet.specs.Fields.{Counts}
-use Rattle.sheet.specs.Questions.{cables_line, cable_line}
+use Rattle.text.specs.Texts.{Fits, Free, Lined, Barred, shown, Any}
+use Rattle.text.specs.Faults.{told, ill_formed, too_many}
+use Rattle.sheet.specs.Counts.{Counts}
+use Rattle.text.specs.Lines.{cables_line, cable_line}
 use Rattle.sheet.specs.Reading.{Between, Miscounted, Counted, Fitting, Unwired}
-use Rattle.sheet.specs.declared.fault.Fault.{Fault}
+use Rattle.text.specs.declared.fault.Fault.{Fault}
 use Rattle.sheet.specs.declared.lines.Lines.{Lines}
-use Rattle.sheet.specs.declared.parts.Shape.{Shape}
-use Rattle.sheet.specs.declared.parts.Shape.TheVariants.{Cabled}
-use Rattle.sheet.proofs.Tidy.{tidy_count}
-use Rattle.sheet.proofs.Stopping.{is_line, over_line, no_line, other_line}
+use Rattle.text.specs.declared.parts.Shape.{Shape}
+use Rattle.text.specs.declared.parts.Shape.TheVariants.{Cabled}
+use Rattle.text.proofs.Tidy.{tidy_cables}
+use Rattle.text.proofs.Stopping.{is_line, no_line, other_line}
+use Rattle.sheet.proofs.Going.{over_line}
 
 pub uncounted : (x : Shape) (m : ℕ) → x ≡ Cabled m → (s : Lines) (f : Fault) → told f ≡ ill_formed (s.read + 1) → Free 10 s.rest.now → Miscounted x s f
 uncounted x m e s f at h = subst (λ y. Miscounted y s f) (sym e) (inl (at, no_line cables_line Any s.rest.now h))
@@ -24,20 +25,18 @@ counted x m y s t ws k (Ok n) l e i h = subst (λ z. Counted z s t (Ok n)) (sym 
 counted x m y s t ws k (Err f) l e i h =
     subst (λ z. Miscounted z s f) (sym y)
     (⊎_elim
-    (λ g. inl (g.0 ∙ ap ill_formed i, other_line cables_line Any s.rest.now tidy_count ws t.rest.now l (λ n fits _. g.1 n fits)))
+    (λ g. inl (g.0 ∙ ap ill_formed i, other_line cables_line Any s.rest.now tidy_cables ws t.rest.now l g.1))
     (λ g. inr (g.0 ∙ ap too_many i, (g.1.0, t.rest.now, is_line (cables_line g.1.0) s.rest.now t.rest.now ws l g.1.1, g.1.2, g.1.3)))
     h)
 
 -- one cable more
-module _ (s t : Lines) (cs : List Cable) (i : ℕ) (l : i < length cs) (o : Between (map cable_line (take i cs)) s t) where
-  pub more_lines : (u : Lines) (x : Cable) (ws : List (List ℕ)) → Lined t.rest.now ws u.rest.now → u.read ≡ t.read + 1 → ws ≡ map shown (cable_line x) → Between (map cable_line (take (i + 1) (set cs i x))) s u
-  more_lines u x ws n e w =
-      subst (λ A. Between A s u) (sym (map_push cable_line (take i cs) x) ∙ ap (map cable_line) (sym (take_more_set cs i x l)))
-      (over_line (map cable_line (take i cs)) (cable_line x) _ _ _ _ _ _ ws o n e w)
+module _ (s t : Lines) (cs : List Cable) (o : Between (map cable_line cs) s t) where
+  pub more_lines : (u : Lines) (x : Cable) (ws : List (List ℕ)) → Lined t.rest.now ws u.rest.now → u.read ≡ t.read + 1 → ws ≡ map shown (cable_line x) → Between (map cable_line (cs ++ x ∷ [])) s u
+  more_lines u x ws n e w = subst (λ A. Between A s u) (sym (map_push cable_line cs x)) (over_line (map cable_line cs) (cable_line x) _ _ _ _ _ _ ws o n e w)
 
-  pub more_fitting : (x : Cable) → AllByRecursion Fits (cable_line x) → Fitting (take i cs) → Fitting (take (i + 1) (set cs i x))
-  more_fitting x h f = subst Fitting (sym (take_more_set cs i x l)) (All-push (λ c. AllByRecursion Fits (cable_line c)) (take i cs) x f h)
+  pub more_fitting : (x : Cable) → AllByRecursion Fits (cable_line x) → Fitting cs → Fitting (cs ++ x ∷ [])
+  more_fitting x h f = All-push (λ c. AllByRecursion Fits (cable_line c)) cs x f h
 
   -- no cable follows
-  pub unwired : (n : ℕ) (f : Fault) → i < n → Fitting (take i cs) → told f ≡ ill_formed (t.read + 1) → Barred cable_line Any t.rest.now → Unwired n s f
-  unwired n f k h at b = (take i cs, t.rest.now, t.read, (let z = length-take-le i cs (omega arith) in omega arith), h, o, at, b)
+  pub unwired : (n : ℕ) (f : Fault) → length cs < n → Fitting cs → told f ≡ ill_formed (t.read + 1) → Barred cable_line Any t.rest.now → Unwired n s f
+  unwired n f k h at b = (cs, t.rest.now, t.read, k, h, o, at, b)

@@ -1,5 +1,3 @@
-pub mod Faults
-pub mod Fields
+pub mod Counts
 pub mod Questions
 pub mod Reading
-pub mod Texts

@@ -1,14 +1,17 @@
 -- What the parts of a question's reader answer.
 use Rattle.std.specs.Prelude.{◌≡◌, ℕ, ◌+◌, ◌<◌, ◌≤◌, ◌⊎◌, List, ◌++◌, map, length, take, Result, MatchResult}
 use Rattle.std.specs.List.{AllByRecursion}
+use Rattle.batch.specs.declared.batch.Batch.{Batch}
+use Rattle.batch.specs.Items.{items}
 use Rattle.fabric.specs.declared.parts.Cable.{Cable}
-use Rattle.sheet.specs.Texts.{Field, Fits, written, text, Barred, Any}
-use Rattle.sheet.specs.Faults.{told, ill_formed, too_many}
-use Rattle.sheet.specs.Questions.{cables_line, cable_line, count_lines, Uncabled}
-use Rattle.sheet.specs.declared.fault.Fault.{Fault}
+use Rattle.text.specs.Texts.{Field, Fits, written, text, Barred, Any}
+use Rattle.text.specs.Faults.{told, ill_formed, too_many}
+use Rattle.text.specs.Lines.{cables_line, cable_line, Uncabled}
+use Rattle.sheet.specs.Questions.{count_lines}
+use Rattle.text.specs.declared.fault.Fault.{Fault}
 use Rattle.sheet.specs.declared.lines.Lines.{Lines}
-use Rattle.sheet.specs.declared.parts.Shape.{Shape}
-use Rattle.sheet.specs.declared.parts.Shape.TheVariants.{Mesh, Cabled}
+use Rattle.text.specs.declared.parts.Shape.{Shape}
+use Rattle.text.specs.declared.parts.Shape.TheVariants.{Mesh, Cabled}
 
 -- the lines A lead from the text bs, after k lines, to the text rest, after j lines
 pub record Over (A : List (List Field)) (bs : List ℕ) (k : ℕ) (rest : List ℕ) (j : ℕ) : Type 0 where
@@ -38,6 +41,6 @@ abbrev pub Unwired : ℕ → Lines → Fault → Type 0
 Unwired n s f =
     (cs : List Cable) × (rest : List ℕ) × (j : ℕ) × (length cs < n) × Fitting cs × Over (map cable_line cs) s.rest.now s.read rest j × (told f ≡ ill_formed (j + 1)) × Barred cable_line Any rest
 
--- n cables stand in the lines, the first n of 128
-abbrev pub Wired : ℕ → Lines → Lines → Result (List Cable) Fault → Type 0
-Wired n s t r = MatchResult r (λ cs. Between (map cable_line (take n cs)) s t × Fitting (take n cs) × (length cs ≡ 128)) (Unwired n s)
+-- n cables stand in the lines
+abbrev pub Wired : ℕ → Lines → Lines → Result (Batch Cable 128) Fault → Type 0
+Wired n s t r = MatchResult r (λ b. Between (map cable_line (items b)) s t × Fitting (items b) × (length (items b) ≡ n)) (Unwired n s)

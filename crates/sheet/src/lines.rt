@@ -1,11 +1,11 @@
 // The lines of a text, one after another.
 ghost use Rattle.std.specs.Prelude.{◌≡◌, ◌+◌, ◌<◌, ◌≤◌, [], length, MatchResult, ◌≢◌};
-ghost use Rattle.sheet.specs.Faults.{told, ill_formed};
-ghost use Rattle.sheet.specs.Texts.{Free, Lined};
-ghost use Rattle.sheet.specs.Fields.{words};
+ghost use Rattle.text.specs.Faults.{told, ill_formed};
+ghost use Rattle.text.specs.Texts.{Free, Lined};
+ghost use Rattle.text.specs.Fields.{words};
 
-use super::fault::Fault;
-use super::field::{Fields, find};
+use text::fault::Fault;
+use text::field::{Fields, find};
 
 // What is left to read of a text, after `read` lines of it.
 #[derive(Drop)]

@@ -3,11 +3,14 @@ ghost use Rattle.std.specs.Prelude.{◌≡◌, ◌≤◌, length, MatchResult};
 ghost use Rattle.sheet.specs.Questions.{asked, asked_text, Formed, Refused};
 ghost use Rattle.sheet.specs.Reading.{Counted, Wired};
 
-use super::fault::Fault;
 use super::lines::Lines;
-use super::parts::{MOST_CABLES, Question, Shape};
+use super::parts::Question;
 use super::rows;
-use fabric::parts::{Cable, Port, Slot};
+use batch::Batch;
+use fabric::parts::Cable;
+use text::fault::Fault;
+use text::parts::{MOST_CABLES, Shape};
+use text::rows as shared;
 
 const MOST_BYTES: usize = 65536;
 
@@ -22,20 +25,14 @@ fn count(lines: &mut Lines, shape: Shape) -> Result<usize, Fault>
 }
 
 // The cables of the next `count` lines.
-fn cables(lines: &mut Lines, count: usize) -> Result<[Cable; MOST_CABLES], Fault>
+fn cables(lines: &mut Lines, count: usize) -> Result<Batch<Cable, MOST_CABLES>, Fault>
     requires { count ≤ 128 }
     ensures { Wired count lines.old lines.new result }
 {
-    let slot = Slot {
-        node: 0,
-        port: Port::N,
-    };
-    let mut cables = [Cable {
-        one: slot,
-        other: slot,
-    }; MOST_CABLES];
-    for i in 0..count {
-        cables[i] = rows::cable(&mut lines.next()?)?;
+    let mut cables = Batch::new(Cable::default());
+    for _ in 0..count {
+        let cable = shared::cable(&mut lines.next()?)?;
+        cables.push(cable).unwrap();
     }
     Ok(cables)
 }
@@ -54,7 +51,7 @@ pub fn read(bytes: &[u8]) -> Result<Question, Fault>
     let count = count(&mut lines, shape)?;
     let cables = cables(&mut lines, count)?;
     lines.end()?;
-    Ok(Question::new(shape, run, cables, count))
+    Ok(Question { shape, run, cables })
 }
 
 #[cfg(test)]

@@ -2,7 +2,7 @@
 use Rattle.std.proofs.Common.{ℕ, ◌*◌, ◌/◌, ◌^◌, ◌<◌, ◌≤◌, List, [], ◌∷◌, map, length, IfSome, Some, None, codes, Option, arith}
 use Rattle.std.specs.List.{AllByRecursion}
 use Rattle.std.proofs.lemmas.Fmt.{length-decimal-le}
-use Rattle.runsheet.specs.Texts.{word, number, written}
+use Rattle.text.specs.Texts.{word, number, written}
 use Rattle.writer.specs.Listings.{event_line, done_line, no_line, end_line, mean_word}
 use Rattle.writer.specs.Steps.{figures, spread}
 use Rattle.writer.proofs.Written.{digits_ten, length_mean, length_written}

@@ -3,7 +3,7 @@ use Rattle.std.proofs.Common.{◌≡◌, ℕ, ◌-◌, ◌≤◌, List, [], ◌+
 use Rattle.std.proofs.lemmas.List.{length-drop, take-append-drop}
 use Rattle.fabric.specs.Verdicts.{Verdict}
 use Rattle.fabric.specs.Verdicts.Verdict.{granted}
-use Rattle.runsheet.specs.Texts.{Field, written}
+use Rattle.text.specs.Texts.{Field, written}
 use Rattle.writer.specs.Listings.{listed, beyond, Appends, LineOut}
 use Rattle.writer.specs.Listings.LineOut.{added, short}
 use Rattle.writer.specs.declared.writer.Writer.{Writer}

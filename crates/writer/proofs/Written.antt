@@ -4,9 +4,9 @@ use Rattle.std.specs.List.{flat_map}
 use Rattle.std.proofs.Math.Nat.{pow-succ'}
 use Rattle.std.proofs.lemmas.Fmt.{decimal_step, decimal_digit, length-decimal-le}
 use Rattle.std.proofs.lemmas.List.{append-nil, length-append, length_push, length-drop, drop-drop, take_more, map_push, flat_map_more}
-use Rattle.runsheet.specs.Texts.{Field, word, number, shown, row, written}
-use Rattle.runsheet.specs.Faults.{layer_word}
-use Rattle.runsheet.specs.declared.fault.Layer.{Layer}
+use Rattle.text.specs.Texts.{Field, word, number, shown, row, written}
+use Rattle.text.specs.Faults.{layer_word}
+use Rattle.text.specs.declared.fault.Layer.{Layer}
 use Rattle.writer.specs.Listings.{listed, beyond, Appends, mean_word, fault_fields}
 use Rattle.writer.specs.Steps.{Puts, figures, spread, Leaves}
 use Rattle.writer.specs.declared.writer.Writer.{Writer}

@@ -2,9 +2,9 @@
 use Rattle.std.specs.Prelude.{◌≡◌, ℕ, ◌/◌, ◌%◌, ◌<◌, ◌≤◌, List, [], ◌∷◌, ◌++◌, map, length, take, drop, Some, None, codes, decimal, Option}
 use Rattle.fabric.specs.Verdicts.{Verdict}
 use Rattle.fabric.specs.Verdicts.Verdict.{granted, refused}
-use Rattle.runsheet.specs.Texts.{Field, word, number, written}
-use Rattle.runsheet.specs.Faults.{layer_word}
-use Rattle.runsheet.specs.declared.fault.Layer.{Layer}
+use Rattle.text.specs.Texts.{Field, word, number, written}
+use Rattle.text.specs.Faults.{layer_word}
+use Rattle.text.specs.declared.fault.Layer.{Layer}
 use Rattle.writer.specs.declared.writer.Writer.{Writer}
 
 -- a line that begins with its cycle and a word, and goes on in numbers

@@ -1,6 +1,6 @@
 -- The steps in which a line is written, and the room that they take.
 use Rattle.std.specs.Prelude.{◌≡◌, ℕ, ◌+◌, ◌<◌, List, [], ◌∷◌, map, length, Option, MatchOption}
-use Rattle.runsheet.specs.Texts.{number, shown}
+use Rattle.text.specs.Texts.{number, shown}
 use Rattle.writer.specs.Listings.{beyond, SameLender, Appends}
 use Rattle.writer.specs.declared.writer.Writer.{Writer}
 

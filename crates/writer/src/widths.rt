@@ -1,11 +1,11 @@
 // How many bytes the fields of a line take.
 ghost use Rattle.std.specs.Prelude.{◌≡◌, ◌≤◌, ◌∷◌, map, length, decimal};
-ghost use Rattle.runsheet.specs.Faults.{layer_word};
-ghost use Rattle.runsheet.specs.Texts.{shown};
+ghost use Rattle.text.specs.Faults.{layer_word};
+ghost use Rattle.text.specs.Texts.{shown};
 ghost use Rattle.writer.specs.Listings.{stamped_line, mean_word};
 ghost use Rattle.writer.specs.Steps.{figures, spread, Leaves};
 
-use runsheet::fault::Layer;
+use text::fault::Layer;
 
 pub(crate) fn digits(n: u32) -> usize
     ensures exact { result ≡ length (decimal n) }

@@ -1,15 +1,14 @@
 use Rattle.std.proofs.Common.{ℕ, length, refl, ap, arith}
-use Rattle.std.proofs.lemmas.List.{length-take}
+use Rattle.batch.proofs.Rooms.{few_items}
 use Rattle.fabric.specs.Refusals.{number}
-use Rattle.runsheet.specs.declared.fault.Layer.TheVariants.{Layout}
+use Rattle.text.specs.declared.fault.Layer.TheVariants.{Layout}
 use Rattle.laying.specs.Reports.Report.{faults}
 use Rattle.laying.proofs.Laying.{as_plans, named_below}
 use Rattle.laying.proofs.lay_cables.Goals as goal
 
 pub line_of-requires : goal.line_of-requires
 line_of-requires c =
-    let s = c.args.sheet.now in
-    named_below (omega (arith, s.wired, ap length c.cables.ensures, length-take s.wires s.cables)) c.in-Err.ensures
+    named_below (omega (arith, ap length c.cables.ensures, few_items c.args.sheet.now.cables)) c.in-Err.ensures
 
 pub returns-in-Ok : goal.returns-in-Ok
 returns-in-Ok c = (_, _, as_plans _ c.new-layout.ensures.plan c.cables.ensures c.in-Ok.ensures, refl)

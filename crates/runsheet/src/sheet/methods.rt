@@ -1,32 +1,30 @@
 // How a sheet is made, and its lists.
-ghost use Rattle.std.specs.Prelude.{◌≡◌, ◌≤◌, take};
+ghost use Rattle.std.specs.Prelude.{◌≡◌};
+ghost use Rattle.batch.specs.Items.{items};
 ghost use Rattle.runsheet.specs.Said.{said};
 
 use super::Sheet;
-use crate::parts::{MOST_CABLES, MOST_PACKETS, Packet, Run, Shape, SwitchKind};
+use crate::parts::{MOST_PACKETS, Packet, SwitchKind};
+use batch::Batch;
 use fabric::parts::Cable;
+use text::parts::{MOST_CABLES, Run, Shape};
 
 impl Sheet {
     pub(crate) fn new(
         shape: Shape,
         kind: SwitchKind,
         run: Run,
-        cables: [Cable; MOST_CABLES],
-        wires: usize,
-        packets: [Packet; MOST_PACKETS],
-        planned: usize,
+        cables: Batch<Cable, MOST_CABLES>,
+        packets: Batch<Packet, MOST_PACKETS>,
     ) -> Sheet
-        requires { (wires ≤ 128) × (planned ≤ 256) }
-        ensures { said result ≡ record { shape = shape; kind = kind; run = run; cables = take wires cables; packets = take planned packets } }
+        ensures { said result ≡ record { shape = shape; kind = kind; run = run; cables = items cables; packets = items packets } }
     {
         Sheet {
             shape,
             kind,
             run,
             cables,
-            wires,
             packets,
-            planned,
         }
     }
 
@@ -34,13 +32,13 @@ impl Sheet {
     pub fn cables(&self) -> &[Cable]
         ensures { result.now ≡ (said self.now).cables }
     {
-        &self.cables[..self.wires]
+        self.cables.as_slice()
     }
 
     // The packets in the order of their lines.
     pub fn packets(&self) -> &[Packet]
         ensures { result.now ≡ (said self.now).packets }
     {
-        &self.packets[..self.planned]
+        self.packets.as_slice()
     }
 }

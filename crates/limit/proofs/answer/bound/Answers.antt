@@ -1,5 +1,5 @@
 use Rattle.std.proofs.Common.{ap}
-use Rattle.sheet.specs.declared.fault.Layer.TheVariants.{Network}
+use Rattle.text.specs.declared.fault.Layer.TheVariants.{Network}
 use Rattle.limit.specs.Reports.{by_layer}
 use Rattle.limit.proofs.Answering.{off_within}
 use Rattle.limit.proofs.answer.bound.Goals as goal

@@ -1,6 +1,6 @@
 use Rattle.std.proofs.Common.{ℕ, refl, ap}
 use Rattle.fabric.specs.Refusals.{number}
-use Rattle.sheet.specs.declared.fault.Layer.TheVariants.{Layout}
+use Rattle.text.specs.declared.fault.Layer.TheVariants.{Layout}
 use Rattle.limit.specs.Reports.Report.{faults}
 use Rattle.limit.proofs.Answering.{as_plans, named_below}
 use Rattle.limit.proofs.answer.lay_cables.Goals as goal

@@ -3,9 +3,9 @@ use Rattle.std.proofs.lemmas.List.{nil_from_length}
 use Rattle.std.proofs.lemmas.Result.{err_from_is_err_and}
 use Rattle.runsheet.specs.Sheets.{Refused}
 use Rattle.runsheet.specs.Reading.{draft, lines_read, entry_line}
-use Rattle.runsheet.proofs.Exits.{err_at}
+use Rattle.text.proofs.Exits.{err_at}
 use Rattle.runsheet.proofs.Moves.{short}
-use Rattle.runsheet.proofs.Stopping.{onward, shorter}
+use Rattle.text.proofs.Stopping.{onward, shorter}
 use Rattle.runsheet.proofs.Stopped.{refused, missing, finished}
 use Rattle.runsheet.proofs.reader.read.Goals as goal
 

@@ -1,5 +1,5 @@
 use Rattle.std.proofs.Common.{◌≡◌, ◌++◌, length}
-use Rattle.runsheet.specs.Texts.{text}
+use Rattle.text.specs.Texts.{text}
 use Rattle.runsheet.specs.Reading.{draft, lines_read, Sound}
 use Rattle.runsheet.proofs.reader.read.Given as goal
 

@@ -1,8 +1,8 @@
 use Rattle.std.proofs.Common.{◌≡◌, ap, ◌∙◌, subst, arith}
 use Rattle.std.proofs.lemmas.Fmt.{decimal_injective}
-use Rattle.runsheet.specs.Faults.{ill_formed}
-use Rattle.runsheet.specs.Sheets.{Uncabled}
-use Rattle.runsheet.proofs.Exits.{rest_of, first_of}
+use Rattle.text.specs.Faults.{ill_formed}
+use Rattle.text.specs.Lines.{Uncabled}
+use Rattle.text.proofs.Exits.{rest_of, first_of}
 use Rattle.runsheet.proofs.rows.cables.Goals as goal
 
 pub returns-in-Mesh : goal.returns-in-Mesh

@@ -1,10 +1,10 @@
 use Rattle.std.proofs.Common.{◌≤◌, [], ◌∷◌, map, take, decimal, sym, ap, ◌∙◌, subst, arith}
 use Rattle.std.specs.List.{AllByRecursion}
 use Rattle.std.proofs.lemmas.Result.{err_from_is_err_and}
-use Rattle.runsheet.specs.Faults.{ill_formed}
-use Rattle.runsheet.specs.Texts.{Fits, number}
+use Rattle.text.specs.Faults.{ill_formed}
+use Rattle.text.specs.Texts.{Fits, number}
 use Rattle.runsheet.specs.Sheets.{payload, packet_line, Sized}
-use Rattle.runsheet.proofs.Exits.{passed, after}
+use Rattle.text.proofs.Exits.{passed, after}
 use Rattle.runsheet.proofs.Payload.{figures, figures_only, figures_end, same_front}
 use Rattle.runsheet.proofs.rows.packet.Goals as goal
 

@@ -1,9 +1,9 @@
 use Rattle.std.proofs.Common.{◌≡◌, ◌+◌, ◌<◌, ◌++◌, map, length, get_or, take, drop, sym, ap, ◌∙◌, arith}
 use Rattle.std.proofs.lemmas.List.{length-set}
 use Rattle.std.proofs.lemmas.Result.{err_from_is_err_and}
-use Rattle.runsheet.specs.Faults.{ill_formed}
-use Rattle.runsheet.specs.Texts.{number}
-use Rattle.runsheet.proofs.Exits.{opened}
+use Rattle.text.specs.Faults.{ill_formed}
+use Rattle.text.specs.Texts.{number}
+use Rattle.text.proofs.Exits.{opened}
 use Rattle.runsheet.proofs.Payload.{figures, figures_more, fits_more, figures_next, fits_at}
 use Rattle.runsheet.proofs.rows.payload.Goals as goal
 

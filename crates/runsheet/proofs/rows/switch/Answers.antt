@@ -1,8 +1,8 @@
 use Rattle.std.proofs.Common.{[]}
 use Rattle.std.proofs.lemmas.Result.{err_from_is_err_and}
-use Rattle.runsheet.specs.Texts.{Any}
+use Rattle.text.specs.Texts.{Any}
 use Rattle.runsheet.specs.Sheets.{kind_line}
-use Rattle.runsheet.proofs.Exits.{passed, rest_of}
+use Rattle.text.proofs.Exits.{passed, rest_of}
 use Rattle.runsheet.proofs.rows.switch.Goals as goal
 
 pub returns-in_err-kind : goal.returns-in_err-kind

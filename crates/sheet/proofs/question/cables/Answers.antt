@@ -1,46 +1,48 @@
-use Rattle.std.proofs.Common.{◌<◌, length, ap, ◌∙◌, arith}
-use Rattle.std.proofs.lemmas.List.{length-set}
+use Rattle.std.proofs.Common.{◌≡◌, ◌+◌, ◌<◌, map, refl, ◌∷◌, [], ◌++◌, length, IsOk, ap, sym, subst, ◌∙◌, arith}
+use Rattle.std.proofs.lemmas.List.{length_push}
 use Rattle.std.proofs.lemmas.Result.{err_from_is_err_and}
-use Rattle.sheet.specs.Texts.{Any}
-use Rattle.sheet.specs.Faults.{ill_formed}
-use Rattle.sheet.specs.Questions.{cable_line}
-use Rattle.sheet.specs.Reading.{Unwired}
-use Rattle.sheet.proofs.Exits.{err_at}
-use Rattle.sheet.proofs.Tidy.{tidy_cable}
-use Rattle.sheet.proofs.Stopping.{no_line, other_line}
+use Rattle.fabric.specs.declared.parts.Cable.{Cable}
+use Rattle.batch.specs.Items.{items}
+use Rattle.batch.proofs.Rooms.{joined_room, answer_room}
+use Rattle.text.specs.Texts.{Any}
+use Rattle.text.specs.Faults.{ill_formed}
+use Rattle.text.specs.Lines.{cable_line}
+use Rattle.sheet.specs.Reading.{Between, Fitting, Unwired}
+use Rattle.text.proofs.Exits.{err_at}
+use Rattle.text.proofs.Tidy.{tidy_cable}
+use Rattle.text.proofs.Stopping.{no_line, other_line}
 use Rattle.sheet.proofs.Wiring.{more_lines, more_fitting, unwired}
 use Rattle.sheet.proofs.question.cables.Goals as goal
 
 pub returns-in_err-next : goal.returns-in_err-next
 returns-in_err-next c =
-    let s = c.args.lines.now in
-    let t = c.loop-i.lines in
-    let inv = c.loop-i.invariant in
+    let inv = c.loop.invariant in
     let h = c.in_err-next.ensures in
-    let l : c.loop-i.i < length c.loop-i.cables = omega (arith, inv.2, c.loop-i-test.true, c.requires) in
-    err_at _ (Unwired c.args.count s) _ _ (err_from_is_err_and _ c.from_residual.ensures.1)
-    (unwired s t c.loop-i.cables c.loop-i.i l inv.0 _ _ c.loop-i-test.true inv.1 h.0 (no_line cable_line Any _ h.1))
+    err_at _ (Unwired c.args.count c.args.lines.now) _ _ (err_from_is_err_and _ c.from_residual.ensures.1)
+    (unwired c.args.lines.now c.loop.lines (items c.loop.cables) inv.0 _ _ (omega (arith, inv.2)) inv.1 h.0 (no_line cable_line Any _ h.1))
 
-pub returns-in_err-cables : goal.returns-in_err-cables
-returns-in_err-cables c =
-    let s = c.args.lines.now in
-    let t = c.loop-i.lines in
-    let inv = c.loop-i.invariant in
+pub returns-in_err-cable : goal.returns-in_err-cable
+returns-in_err-cable c =
+    let inv = c.loop.invariant in
     let n = c.in_ok-next.ensures in
-    let h = c.in_err-cables.ensures in
-    let l : c.loop-i.i < length c.loop-i.cables = omega (arith, inv.2, c.loop-i-test.true, c.requires) in
-    err_at _ (Unwired c.args.count s) _ _ (err_from_is_err_and _ c.from_residual-in_err-cables.ensures.1)
-    (unwired s t c.loop-i.cables c.loop-i.i l inv.0 _ _ c.loop-i-test.true inv.1 (h.0 ∙ ap ill_formed n.1) (other_line cable_line Any _ tidy_cable _ _ n.0 h.1))
+    let h = c.in_err-cable.ensures in
+    err_at _ (Unwired c.args.count c.args.lines.now) _ _ (err_from_is_err_and _ c.from_residual-in_err-cable.ensures.1)
+    (unwired c.args.lines.now c.loop.lines (items c.loop.cables) inv.0 _ _ (omega (arith, inv.2)) inv.1 (h.0 ∙ ap ill_formed n.1) (other_line cable_line Any _ tidy_cable _ _ n.0 h.1))
 
-pub loop-i-preserved : goal.loop-i-preserved
-loop-i-preserved c =
+pub unwrap-requires : goal.unwrap-requires
+unwrap-requires c = subst IsOk (sym (c.push.ensures.answer ∙ answer_room 128 (items c.loop.cables) _ (omega (arith, c.loop.invariant.2)))) refl
+
+pub loop-preserved : goal.loop-preserved
+loop-preserved c =
     let s = c.args.lines.now in
-    let t = c.loop-i.lines in
-    let inv = c.loop-i.invariant in
+    let t = c.loop.lines in
+    let inv = c.loop.invariant in
     let n = c.in_ok-next.ensures in
-    let x = c.in_ok-cables.ensures in
-    let l : c.loop-i.i < length c.loop-i.cables = omega (arith, inv.2, c.loop-i-test.true, c.requires) in (
-      more_lines s t c.loop-i.cables c.loop-i.i l inv.0 c.next.new.self _ _ n.0 n.2 x.0,
-      more_fitting s t c.loop-i.cables c.loop-i.i l inv.0 _ x.1 inv.1,
-      length-set c.loop-i.cables c.loop-i.i _ ∙ inv.2,
+    let x = c.in_ok-cable.ensures in
+    let cs = items c.loop.cables in
+    let l : length cs < 128 = omega (arith, inv.2) in
+    let e = sym (c.push.ensures.held ∙ joined_room 128 cs c.in_ok-cable.cable l) in (
+      subst (λ ds. Between (map cable_line ds) s c.next.new.self) e (more_lines s t cs inv.0 c.next.new.self _ _ n.0 n.2 x.0),
+      subst Fitting e (more_fitting s t cs inv.0 _ x.1 inv.1),
+      sym (ap length e) ∙ length_push cs _ ∙ ap (λ k. k + 1) inv.2,
     )

@@ -1,7 +1,8 @@
-use Rattle.std.proofs.Common.{◌≡◌, map, length, take}
-use Rattle.sheet.specs.Questions.{cable_line}
+use Rattle.std.proofs.Common.{◌≡◌, map, length}
+use Rattle.batch.specs.Items.{items}
+use Rattle.text.specs.Lines.{cable_line}
 use Rattle.sheet.specs.Reading.{Between, Fitting}
 use Rattle.sheet.proofs.question.cables.Given as goal
 
-abbrev pub invariant-loop-i : goal.invariant-loop-i
-invariant-loop-i l = Between (map cable_line (take l.i l.cables)) l.initial.lines l.lines × Fitting (take l.i l.cables) × (length l.cables ≡ 128)
+abbrev pub invariant-loop : goal.invariant-loop
+invariant-loop l = Between (map cable_line (items l.cables)) l.initial.lines l.lines × Fitting (items l.cables) × (length (items l.cables) ≡ l.counter)

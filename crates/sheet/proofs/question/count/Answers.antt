@@ -1,6 +1,6 @@
 use Rattle.std.proofs.lemmas.Result.{err_from_is_err_and}
 use Rattle.sheet.specs.Reading.{Miscounted}
-use Rattle.sheet.proofs.Exits.{err_at}
+use Rattle.text.proofs.Exits.{err_at}
 use Rattle.sheet.proofs.Wiring.{counted, uncounted}
 use Rattle.sheet.proofs.question.count.Goals as goal
 

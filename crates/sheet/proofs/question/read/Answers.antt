@@ -1,11 +1,13 @@
-use Rattle.std.proofs.Common.{take, ap, ◌∙◌, arith}
+use Rattle.std.proofs.Common.{ap, refl, ◌∙◌, arith}
 use Rattle.std.proofs.lemmas.Result.{err_from_is_err_and}
-use Rattle.sheet.specs.Texts.{Any}
-use Rattle.sheet.specs.Faults.{ill_formed}
-use Rattle.sheet.specs.Questions.{shape_line, run_line, asked, Brief, Refused}
-use Rattle.sheet.proofs.Exits.{err_at}
-use Rattle.sheet.proofs.Tidy.{tidy_shape, tidy_run}
-use Rattle.sheet.proofs.Stopping.{no_line, other_line}
+use Rattle.batch.specs.Items.{items}
+use Rattle.text.specs.Texts.{Any}
+use Rattle.text.specs.Faults.{ill_formed}
+use Rattle.text.specs.Lines.{shape_line, run_line, Brief}
+use Rattle.sheet.specs.Questions.{Refused}
+use Rattle.text.proofs.Exits.{err_at}
+use Rattle.text.proofs.Tidy.{tidy_shape, tidy_run}
+use Rattle.text.proofs.Stopping.{no_line, other_line}
 use Rattle.sheet.proofs.Asking.{shaped, fronted, tallied, wholly, finished, no_shape, no_run, miscounted, miswired, no_end}
 use Rattle.sheet.proofs.question.read.Goals as goal
 
@@ -67,17 +69,16 @@ returns-in_err-end c =
     let bs = c.args.bytes.now in
     let a = fronted bs c.new-lines.result c.next.new.self c.next-2.new.self c.in_ok-next.field-0 c.in_ok-next-2.field-0 c.in_ok-shape.shape c.in_ok-run.run' c.new-lines.ensures.rest c.new-lines.ensures.read c.in_ok-next.ensures c.in_ok-shape.ensures c.in_ok-next-2.ensures c.in_ok-run.ensures in
     let b = tallied bs c.next-2.new.self c.count.new.lines c.in_ok-shape.shape c.in_ok-run.run' c.in_ok-count.count a c.in_ok-count.ensures in
-    let w = wholly bs c.count.new.lines c.cables.new.lines c.in_ok-shape.shape c.in_ok-run.run' c.in_ok-count.count c.in_ok-cables.cables b c.in_ok-cables.ensures in
+    let w = wholly bs c.count.new.lines c.cables.new.lines c.in_ok-shape.shape c.in_ok-run.run' c.in_ok-count.count (items c.in_ok-cables.cables) b c.in_ok-cables.ensures in
     let h = c.in_err-end.ensures in
     err_at _ (Refused bs) _ _ (err_from_is_err_and _ c.from_residual-in_err-end.ensures.1)
-    (no_end bs c.cables.new.lines _ c.in_ok-run.run' (omega arith) c.in_ok-shape.shape (take c.in_ok-count.count c.in_ok-cables.cables) h.0 w h.1)
+    (no_end bs c.cables.new.lines _ c.in_ok-run.run' (omega arith) c.in_ok-shape.shape (items c.in_ok-cables.cables) h.0 w h.1)
 
 pub returns : goal.returns
 returns c =
     let bs = c.args.bytes.now in
     let a = fronted bs c.new-lines.result c.next.new.self c.next-2.new.self c.in_ok-next.field-0 c.in_ok-next-2.field-0 c.in_ok-shape.shape c.in_ok-run.run' c.new-lines.ensures.rest c.new-lines.ensures.read c.in_ok-next.ensures c.in_ok-shape.ensures c.in_ok-next-2.ensures c.in_ok-run.ensures in
     let b = tallied bs c.next-2.new.self c.count.new.lines c.in_ok-shape.shape c.in_ok-run.run' c.in_ok-count.count a c.in_ok-count.ensures in
-    let w = wholly bs c.count.new.lines c.cables.new.lines c.in_ok-shape.shape c.in_ok-run.run' c.in_ok-count.count c.in_ok-cables.cables b c.in_ok-cables.ensures in
-    let r = c.new.ensures in
-    let q = finished bs c.cables.new.lines _ (asked c.new.result) w (λ i. record { shape = r.lines.0 i; run = r.lines.1 i; cables = take (r.cables.1 i) (r.cables.0 i) }) c.in_ok-end.ensures in
+    let w = wholly bs c.count.new.lines c.cables.new.lines c.in_ok-shape.shape c.in_ok-run.run' c.in_ok-count.count (items c.in_ok-cables.cables) b c.in_ok-cables.ensures in
+    let q = finished bs c.cables.new.lines _ _ w refl c.in_ok-end.ensures in
     (omega arith, q.0, q.1)

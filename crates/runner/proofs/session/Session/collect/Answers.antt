@@ -1,7 +1,7 @@
 use Rattle.std.proofs.Common.{List, [], sym, refl, subst, append-nil}
 use Rattle.std.proofs.lemmas.List.{length-take-le}
 use Rattle.calls.specs.Networks.{fabric_of}
-use Rattle.runsheet.specs.Texts.{Field}
+use Rattle.text.specs.Texts.{Field}
 use Rattle.runner.specs.Progress.{Stands}
 use Rattle.runner.proofs.Sessions.{in_memory, uncollected, not_yet, brings, written_of, one_more}
 use Rattle.runner.proofs.session.Session.collect.Goals as goal

@@ -1,10 +1,10 @@
 use Rattle.std.proofs.Common.{◌+◌, ◌<◌, length, refl, inl, inr, arith, rules}
 use Rattle.std.proofs.lemmas.Result.{err_from_is_err_and}
 use Rattle.runsheet.specs.Reading.{draft, entry_line, Suits, Refuses}
-use Rattle.runsheet.proofs.Exits.{err_at}
+use Rattle.text.proofs.Exits.{err_at}
 use Rattle.runsheet.proofs.Moves.{short}
-use Rattle.runsheet.proofs.Stopping.{lined, is_line, unended, no_line, other_line}
-use Rattle.runsheet.proofs.Tidy.{tidy_entry}
+use Rattle.text.proofs.Stopping.{lined, is_line, unended, no_line, other_line}
+use Rattle.runsheet.proofs.Apart.{tidy_entry}
 use Rattle.runsheet.proofs.Sections.{unlike}
 use Rattle.runsheet.proofs.reader.Reader.step.Goals as goal
 

@@ -1,7 +1,7 @@
 use Rattle.std.proofs.Common.{◌<◌, length, refl, subst, arith}
 use Rattle.std.proofs.lemmas.List.{take_all}
-use Rattle.sheet.specs.Texts.{Free}
-use Rattle.sheet.proofs.Stopping.{lined}
+use Rattle.text.specs.Texts.{Free}
+use Rattle.text.proofs.Stopping.{lined}
 use Rattle.sheet.proofs.lines.Lines.next.Goals as goal
 
 pub returns-then-end-rest : goal.returns-then-end-rest

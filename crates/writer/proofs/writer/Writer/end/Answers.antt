@@ -1,5 +1,5 @@
 use Rattle.std.proofs.Common.{[], ◌∷◌, codes, arith}
-use Rattle.runsheet.specs.Texts.{word, number}
+use Rattle.text.specs.Texts.{word, number}
 use Rattle.writer.specs.Listings.{mean_word}
 use Rattle.writer.specs.Listings.LineOut.{added, short}
 use Rattle.writer.proofs.Written.{lined_last, length_written}

@@ -1,5 +1,5 @@
 use Rattle.std.proofs.Common.{◌∷◌, length, decimal, ap, ◌∙◌, subst, arith}
-use Rattle.runsheet.specs.Faults.{told}
+use Rattle.text.specs.Faults.{told}
 use Rattle.writer.specs.Steps.{Puts}
 use Rattle.writer.specs.Listings.LineOut.{added, short}
 use Rattle.writer.proofs.Written.{lined_last, length_fault}

@@ -1,5 +1,5 @@
 use Rattle.std.proofs.Common.{◌∷◌, map, arith}
-use Rattle.runsheet.specs.Texts.{word, number}
+use Rattle.text.specs.Texts.{word, number}
 use Rattle.writer.specs.Steps.{figures}
 use Rattle.writer.specs.Listings.LineOut.{added, short}
 use Rattle.writer.proofs.Written.{lined, length_written, length_joined, too_few, enough}

@@ -1,0 +1,33 @@
+-- The exit of a `?` in the reading of a line, and the fields that follow those read.
+use Rattle.std.proofs.Common.{◌≡◌, ℕ, List, ◌∷◌, ◌++◌, map, get_or, drop, Err, Result, sym, ap, ◌∙◌, subst, MatchResult}
+use Rattle.std.specs.List.{AllByRecursion}
+use Rattle.text.specs.Texts.{Field, Fits, shown}
+use Rattle.text.specs.Fields.{Unlike, Reads, Begins}
+use Rattle.text.specs.Faults.{told, ill_formed}
+use Rattle.text.specs.declared.fault.Fault.{Fault}
+
+-- the result is the fault that was met
+abbrev pub Passes : {A : Type 0} → Result A Fault → Fault → Type 0
+Passes r f = (y : Fault) × (r ≡ Err y) × (y ≡ f)
+
+pub err_at : {A : Type 0} (P : A → Type 0) (Q : Fault → Type 0) (r : Result A Fault) (f : Fault) → Passes r f → Q f → MatchResult r P Q
+err_at P Q r f p q = subst (λ x. MatchResult x P Q) (sym p.1) (subst Q (sym p.2) q)
+
+-- and no value has the words
+pub passed : {A : Type 0} (line : A → List Field) (P : A → Type 0) (ws : List (List ℕ)) (k : ℕ) (r : Result A Fault) (f : Fault) →
+    Passes r f → told f ≡ ill_formed k → Unlike line P ws → Reads line P ws k r
+passed line P ws k r f p at none = err_at _ _ r f p (at, none)
+
+pub opened : {A : Type 0} (part : A → List Field) (P : A → Type 0) (ws more : List (List ℕ)) (k : ℕ) (r : Result A Fault) (f : Fault) →
+    Passes r f → told f ≡ ill_formed k → ((x : A) (vs : List (List ℕ)) → AllByRecursion Fits (part x) → P x → ws ≡ map shown (part x) ++ vs → ⊥) → Begins part P ws more k r
+opened part P ws more k r f p at none = err_at _ _ r f p (at, none)
+
+-- what follows the first of a list
+pub rest_of : {X : Type 0} {x y : X} {xs ys : List X} → x ∷ xs ≡ y ∷ ys → xs ≡ ys
+rest_of e = ap (drop 1) e
+
+pub after : {X : Type 0} {ws : List X} {x y : X} {xs ys : List X} → ws ≡ x ∷ xs → ws ≡ y ∷ ys → xs ≡ ys
+after h e = rest_of (sym h ∙ e)
+
+pub first_of : {X : Type 0} {ws : List X} {x y : X} {xs ys : List X} → ws ≡ x ∷ xs → ws ≡ y ∷ ys → x ≡ y
+first_of {x} h e = ap (λ l. get_or l 0 x) (sym h ∙ e)

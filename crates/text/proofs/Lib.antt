@@ -1,0 +1,7 @@
+pub mod Aligned
+pub mod Exits
+pub mod Numbers
+pub mod Parting
+pub mod Stopping
+pub mod Tidy
+pub mod Words

@@ -1,0 +1,59 @@
+-- Parting a text by a byte, and joining the parts by it.
+use Rattle.std.proofs.Common.{◌≡◌, ℕ, ◌+◌, ◌<◌, ◌≤◌, eqb, List, [], ◌∷◌, ◌++◌, length, get_or, take, drop, sym, refl, ap, ◌∙◌, subst, ⊎_elim, arith}
+use Rattle.std.specs.List.{flat_map, AllByRecursion}
+use Rattle.std.proofs.lemmas.List.{append-nil, take-append-drop, drop_more, take_all}
+use Rattle.std.proofs.lemmas.Bool.{cond-true, cond-false, eq-eqb, ne_eqb, cases_Bool, eqb-true}
+use Rattle.text.specs.Texts.{parted, onto, spaced, Free}
+
+pub parted_free : (b : ℕ) (w : List ℕ) → Free b w → parted b w ≡ w ∷ []
+parted_free b [] h = refl
+parted_free b (x ∷ xs) h = cond-false (eqb x b) _ _ (ne_eqb x b h.0) ∙ ap (onto x) (parted_free b xs h.1)
+
+pub parted_at : (b : ℕ) (w r : List ℕ) → Free b w → parted b (w ++ b ∷ r) ≡ w ∷ parted b r
+parted_at b [] r h = cond-true (eqb b b) _ _ (eq-eqb b b refl)
+parted_at b (x ∷ xs) r h = cond-false (eqb x b) _ _ (ne_eqb x b h.0) ∙ ap (onto x) (parted_at b xs r h.1)
+
+-- up to the first b, at index e
+pub parted_found : (b : ℕ) (s : List ℕ) (e : ℕ) → e < length s → Free b (take e s) → get_or s e 0 ≡ b → parted b s ≡ take e s ∷ parted b (drop (e + 1) s)
+parted_found b s e l f g =
+    ap (parted b) (sym (take-append-drop e s) ∙ ap (λ r. take e s ++ r) (drop_more s e 0 l ∙ ap (λ x. x ∷ drop (e + 1) s) g))
+    ∙ parted_at b (take e s) (drop (e + 1) s) f
+
+-- there is no b
+pub parted_none : (b : ℕ) (s : List ℕ) (e : ℕ) → length s ≤ e → Free b (take e s) → parted b s ≡ take e s ∷ []
+parted_none b s e l f = let t = take_all e s l in parted_free b s (subst (Free b) t f) ∙ ap (λ w. w ∷ []) (sym t)
+
+-- parting undoes the joining
+pub parted_spaced : (w : List ℕ) (ws : List (List ℕ)) → AllByRecursion (Free 32) (w ∷ ws) → parted 32 (spaced (w ∷ ws)) ≡ w ∷ ws
+parted_spaced w [] h = ap (parted 32) (append-nil w) ∙ parted_free 32 w h.0
+parted_spaced w (v ∷ vs) h = parted_at 32 w (spaced (v ∷ vs)) h.0 ∙ ap (λ r. w ∷ r) (parted_spaced v vs h.1)
+
+pub parted_some : (b : ℕ) (s : List ℕ) → (w : List ℕ) × (ws : List (List ℕ)) × (parted b s ≡ w ∷ ws)
+parted_some b [] = ([], [], refl)
+parted_some b (x ∷ xs) =
+    let k = parted_some b xs in
+    ⊎_elim
+    (λ e. ([], parted b xs, cond-true (eqb x b) _ _ e))
+    (λ e. (x ∷ k.0, k.1, cond-false (eqb x b) _ _ e ∙ ap (onto x) k.2))
+    (cases_Bool (eqb x b))
+
+spaced_onto : (x : ℕ) (ws : List (List ℕ)) → spaced (onto x ws) ≡ x ∷ spaced ws
+spaced_onto x [] = refl
+spaced_onto x (w ∷ ws) = refl
+
+-- joining undoes the parting
+pub spaced_parted : (s : List ℕ) → spaced (parted 32 s) ≡ s
+spaced_parted [] = refl
+spaced_parted (x ∷ xs) =
+    let k = parted_some 32 xs in
+    ⊎_elim
+    (λ e. ap spaced (cond-true (eqb x 32) _ _ e) ∙ ap (flat_map (λ v. 32 ∷ v)) k.2 ∙ ap (λ r. 32 ∷ r) (ap spaced (sym k.2) ∙ spaced_parted xs) ∙ ap (λ y. y ∷ xs) (sym (eqb-true x 32 e)))
+    (λ e. ap spaced (cond-false (eqb x 32) _ _ e) ∙ spaced_onto x (parted 32 xs) ∙ ap (λ r. x ∷ r) (spaced_parted xs))
+    (cases_Bool (eqb x 32))
+
+-- a text has a part
+pub parted_not_none : (b : ℕ) (s : List ℕ) → parted b s ≡ [] → ⊥
+parted_not_none b s e =
+    let k = parted_some b s in
+    let f : k.0 ∷ k.1 ≡ [] = sym k.2 ∙ e in
+    let z : ◌≡◌ {A = ℕ} 0 1 = cc in omega arith

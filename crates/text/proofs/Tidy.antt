@@ -1,0 +1,97 @@
+-- A line's fields can be told from its bytes: no field holds a space or a byte 10.
+use Rattle.std.proofs.Common.{◌≡◌, ℕ, ◌^◌, ◌<◌, List, [], ◌∷◌, map, get_or, decimal, sym, ap, ◌∙◌, arith}
+use Rattle.std.specs.List.{flat_map, AllByRecursion}
+use Rattle.std.proofs.lemmas.Fmt.{decimal_injective}
+use Rattle.std.proofs.lemmas.Str.Parse.{digit_at}
+use Rattle.std.proofs.ByRecursion.{All-append, All-from_get_or}
+use Rattle.text.specs.Texts.{Field, word, number, shown, Fits, Free, row, parted}
+use Rattle.text.specs.Lines.{shape_line, run_line, cables_line, cable_line, Uncabled}
+use Rattle.text.specs.declared.parts.Shape.{Shape}
+use Rattle.text.specs.declared.parts.Shape.TheVariants.{Mesh, Cabled}
+use Rattle.text.specs.declared.parts.Run.{Run}
+use Rattle.fabric.specs.Ports.{letter}
+use Rattle.fabric.specs.declared.parts.Cable.{Cable}
+use Rattle.fabric.specs.declared.parts.Port.{Port}
+use Rattle.fabric.specs.declared.parts.Port.TheVariants.{N, E, S, W}
+use Rattle.text.proofs.Words.{mesh_apart}
+use Rattle.text.proofs.Numbers.{writes}
+use Rattle.text.proofs.Parting.{parted_spaced}
+
+decimal_free : (b n : ℕ) → n < 2 ^ 32 → b < 48 → Free b (decimal n)
+decimal_free b n h l = All-from_get_or (λ x. x ≡ b → ⊥) (decimal n) 0 (λ i k e. let d = digit_at (decimal n) i (writes n h).digits k in omega (arith, d.0))
+
+-- a word without a space and a byte 10
+abbrev pub Plain : Field → Type 0
+Plain (word w) = Free 32 w × Free 10 w
+Plain (number n) = Unit {0}
+
+free_32 : (f : Field) → Fits f → Plain f → Free 32 (shown f)
+free_32 (word w) h p = p.0
+free_32 (number n) h p = decimal_free 32 n h (omega arith)
+
+free_10 : (f : Field) → Fits f → Plain f → Free 10 (shown f)
+free_10 (word w) h p = p.1
+free_10 (number n) h p = decimal_free 10 n h (omega arith)
+
+all_32 : (fs : List Field) → AllByRecursion Fits fs → AllByRecursion Plain fs → AllByRecursion (Free 32) (map shown fs)
+all_32 [] h p = tt
+all_32 (f ∷ fs) h p = (free_32 f h.0 p.0, all_32 fs h.1 p.1)
+
+joined_free : (fs : List Field) → AllByRecursion Fits fs → AllByRecursion Plain fs → Free 10 (flat_map (λ v. 32 ∷ v) (map shown fs))
+joined_free [] h p = tt
+joined_free (f ∷ fs) h p = (omega arith, All-append (λ x. x ≡ 10 → ⊥) (shown f) (flat_map (λ v. 32 ∷ v) (map shown fs)) (free_10 f h.0 p.0) (joined_free fs h.1 p.1))
+
+pub record Tidy (fs : List Field) : Type 0 where
+  pub ends : Free 10 (row fs)
+  pub parts : parted 32 (row fs) ≡ map shown fs
+
+pub tidy : (f : Field) (fs : List Field) → AllByRecursion Fits (f ∷ fs) → AllByRecursion Plain (f ∷ fs) → Tidy (f ∷ fs)
+tidy f fs h p =
+    record {
+      ends = All-append (λ x. x ≡ 10 → ⊥) (shown f) (flat_map (λ v. 32 ∷ v) (map shown fs)) (free_10 f h.0 p.0) (joined_free fs h.1 p.1);
+      parts = parted_spaced (shown f) (map shown fs) (all_32 (f ∷ fs) h p);
+    }
+
+pub tidy_shape : (x : Shape) → AllByRecursion Fits (shape_line x) → Tidy (shape_line x)
+tidy_shape (Mesh w h) f = tidy _ _ f ((omega arith, omega arith), (tt, (tt, tt)))
+tidy_shape (Cabled n) f = tidy _ _ f ((omega arith, omega arith), (tt, tt))
+
+pub tidy_run : (x : Run) → AllByRecursion Fits (run_line x) → Tidy (run_line x)
+tidy_run x f = tidy _ _ f ((omega arith, omega arith), (tt, (tt, (tt, (tt, (tt, tt))))))
+
+pub tidy_cables : (n : ℕ) → AllByRecursion Fits (cables_line n) → Tidy (cables_line n)
+tidy_cables n f = tidy _ _ f ((omega arith, omega arith), (tt, tt))
+
+letter_plain : (p : Port) → Plain (word (letter p))
+letter_plain N = (omega arith, omega arith)
+letter_plain E = (omega arith, omega arith)
+letter_plain S = (omega arith, omega arith)
+letter_plain W = (omega arith, omega arith)
+
+pub tidy_cable : (x : Cable) → AllByRecursion Fits (cable_line x) → Tidy (cable_line x)
+tidy_cable x f = tidy _ _ f (tt, (letter_plain x.one.port, (tt, (letter_plain x.other.port, tt))))
+
+pub tidy_all : {X : Type 0} (line : X → List Field) → ((x : X) → AllByRecursion Fits (line x) → Tidy (line x)) → (xs : List X) → AllByRecursion (AllByRecursion Fits) (map line xs) → AllByRecursion Tidy (map line xs)
+tidy_all line t [] h = tt
+tidy_all line t (x ∷ xs) h = (t x h.0, tidy_all line t xs h.1)
+
+-- equal bytes have equal fields
+pub same_words : (a b : List Field) → Tidy a → Tidy b → row a ≡ row b → map shown a ≡ map shown b
+same_words a b t u e = sym t.parts ∙ ap (parted 32) e ∙ u.parts
+
+second : List (List ℕ) → List ℕ
+second ws = get_or ws 1 []
+
+-- a number can be told from the bytes of its line
+pub same_number : (w : List ℕ) (m n : ℕ) → m < 2 ^ 32 → n < 2 ^ 32 → Tidy (word w ∷ number m ∷ []) → Tidy (word w ∷ number n ∷ []) → row (word w ∷ number m ∷ []) ≡ row (word w ∷ number n ∷ []) → m ≡ n
+unfolding second
+same_number w m n h k t u e = decimal_injective m n (omega arith) (omega arith) (ap second (same_words (word w ∷ number m ∷ []) (word w ∷ number n ∷ []) t u e))
+
+pub same_cables : (m n : ℕ) → AllByRecursion Fits (cables_line m) → AllByRecursion Fits (cables_line n) → row (cables_line m) ≡ row (cables_line n) → m ≡ n
+same_cables m n h k e = same_number _ m n h.1.0 k.1.0 (tidy_cables m h) (tidy_cables n k) e
+
+-- and so can the kind of a layout
+pub same_uncabled : (x y : Shape) (n : ℕ) → AllByRecursion Fits (shape_line x) → AllByRecursion Fits (shape_line y) → row (shape_line x) ≡ row (shape_line y) → Uncabled y n → Uncabled x n
+same_uncabled (Mesh w h) (Mesh v i) n f g e u = u
+same_uncabled (Mesh w h) (Cabled m) n f g e u = absurd (mesh_apart _ _ (same_words (shape_line (Mesh w h)) (shape_line (Cabled m)) (tidy_shape (Mesh w h) f) (tidy_shape (Cabled m) g) e))
+same_uncabled (Cabled m) y n f g e u = tt

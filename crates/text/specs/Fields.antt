@@ -1,0 +1,23 @@
+-- The fields that are left of a line, and what reading them as a line of some kind answers.
+use Rattle.std.specs.Prelude.{◌≡◌, ℕ, cond, List, [], ◌++◌, map, Result, MatchResult, ◌≢◌}
+use Rattle.std.specs.List.{AllByRecursion}
+use Rattle.text.specs.Texts.{Field, Fits, shown, parted}
+use Rattle.text.specs.Faults.{told, ill_formed}
+use Rattle.text.specs.declared.fault.Fault.{Fault}
+use Rattle.text.specs.declared.field.Fields.{Fields}
+
+-- the fields that are left, as they stand
+abbrev pub words : Fields → List (List ℕ)
+words f = cond f.more (parted 32 f.rest.now) []
+
+-- no value that P holds of has the words
+abbrev pub Unlike : {A : Type 0} → (A → List Field) → (A → Type 0) → List (List ℕ) → Type 0
+Unlike {A} line P ws = (x : A) → AllByRecursion Fits (line x) → P x → ws ≢ map shown (line x)
+
+-- the words ws of line k are those of the value, or of no value that P holds of
+abbrev pub Reads : {A : Type 0} → (A → List Field) → (A → Type 0) → List (List ℕ) → ℕ → Result A Fault → Type 0
+Reads {A} line P ws k r = MatchResult r (λ x. (ws ≡ map shown (line x)) × AllByRecursion Fits (line x) × P x) (λ f. (told f ≡ ill_formed k) × Unlike line P ws)
+
+-- the words begin with those of the value, and `more` follow; or with those of no value that P holds of
+abbrev pub Begins : {A : Type 0} → (A → List Field) → (A → Type 0) → List (List ℕ) → List (List ℕ) → ℕ → Result A Fault → Type 0
+Begins {A} part P ws more k r = MatchResult r (λ x. (ws ≡ map shown (part x) ++ more) × AllByRecursion Fits (part x) × P x) (λ f. (told f ≡ ill_formed k) × ((x : A) (vs : List (List ℕ)) → AllByRecursion Fits (part x) → P x → ws ≢ map shown (part x) ++ vs))

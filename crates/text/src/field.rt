@@ -1,0 +1,118 @@
+// The fields of a line, one after another.
+ghost use Rattle.std.specs.Prelude.{◌≡◌, ℕ, ◌^◌, ◌<◌, ◌≤◌, List, [], ◌∷◌, length, take, decimal, Decides, MatchResult, ◌≢◌, slice_index};
+ghost use Rattle.fabric.specs.Ports.{letter};
+ghost use Rattle.fabric.specs.declared.parts.Port.{Port as Side};
+ghost use Rattle.text.specs.Faults.{told, ill_formed, too_many};
+ghost use Rattle.text.specs.Texts.{parted, Free};
+ghost use Rattle.text.specs.Fields.{words};
+
+use super::fault::Fault;
+use super::number::number;
+use fabric::parts::Port;
+
+// The index of the first `b` of `text`, or its length where there is none.
+pub fn find(text: &[u8], b: u8) -> usize
+    ensures within { result ≤ length text.now }
+    ensures before { Free b (take result text.now) }
+    ensures found { result < length text.now → slice_index text.now result ≡ b }
+{
+    for (i, x) in text.iter().enumerate() {
+        if *x == b {
+            return i;
+        }
+    }
+    text.len()
+}
+
+// For guards: a match on fixed bytes is checked byte by byte.
+pub fn is(word: &[u8], fixed: &[u8]) -> bool
+    ensures { Decides result (word.now ≡ fixed.now) }
+{
+    word == fixed
+}
+
+// What is left of line `line` to read: `rest`, unless its last field is read.
+#[derive(Drop)]
+pub struct Fields<'a> {
+    rest: &'a [u8],
+    more: bool,
+    line: u32,
+}
+
+impl<'a> Fields<'a> {
+    pub fn new(text: &'a [u8], line: u32) -> Fields<'a>
+        ensures words { words result ≡ parted 32 text.now }
+        ensures line { result.line ≡ line }
+    {
+        Fields {
+            rest: text,
+            more: true,
+            line,
+        }
+    }
+
+    // The next field.
+    pub fn word(&mut self) -> Result<&'a [u8], Fault>
+        ensures words { MatchResult result (λ w. words self.old ≡ w.now ∷ words self.new) (λ f. (told f ≡ ill_formed self.old.line) × (words self.old ≡ [])) }
+        ensures line { self.new.line ≡ self.old.line }
+    {
+        if !self.more {
+            return Err(Fault::ill_formed(self.line));
+        }
+        let rest = self.rest;
+        let end = find(rest, b' ');
+        if end < rest.len() {
+            self.rest = &rest[end + 1..];
+        } else {
+            self.more = false;
+        }
+        Ok(&rest[0..end])
+    }
+
+    // The next field, a number.
+    pub fn number(&mut self) -> Result<u32, Fault>
+        ensures words { MatchResult result (λ n. (n < 2 ^ 32) × (words self.old ≡ decimal n ∷ words self.new)) (λ f. (told f ≡ ill_formed self.old.line) × ((n : ℕ) (ws : List (List ℕ)) → n < 2 ^ 32 → words self.old ≢ decimal n ∷ ws)) }
+        ensures line { self.new.line ≡ self.old.line }
+    {
+        let word = self.word()?;
+        number(word, self.line)
+    }
+
+    // The next field, a port's letter.
+    pub fn port(&mut self) -> Result<Port, Fault>
+        ensures words { MatchResult result (λ p. words self.old ≡ letter p ∷ words self.new) (λ f. (told f ≡ ill_formed self.old.line) × ((p : Side) (ws : List (List ℕ)) → words self.old ≢ letter p ∷ ws)) }
+        ensures line { self.new.line ≡ self.old.line }
+    {
+        match self.word()? {
+            w if is(w, b"N") => Ok(Port::N),
+            w if is(w, b"E") => Ok(Port::E),
+            w if is(w, b"S") => Ok(Port::S),
+            w if is(w, b"W") => Ok(Port::W),
+            _ => Err(self.fault()),
+        }
+    }
+
+    // The line is not of its form.
+    pub fn fault(&self) -> Fault
+        ensures { told result ≡ ill_formed self.now.line }
+    {
+        Fault::ill_formed(self.line)
+    }
+
+    // The line's count exceeds its limit.
+    pub fn excess(&self) -> Fault
+        ensures { told result ≡ too_many self.now.line }
+    {
+        Fault::too_many(self.line)
+    }
+
+    // No field is left.
+    pub fn end(&self) -> Result<(), Fault>
+        ensures { MatchResult result (λ _. words self.now ≡ []) (λ f. (told f ≡ ill_formed self.now.line) × (words self.now ≢ [])) }
+    {
+        if self.more {
+            return Err(self.fault());
+        }
+        Ok(())
+    }
+}
