@@ -1,6 +1,7 @@
 -- What follows from the laws of a layout, for every plan that keeps them.
-use Rattle.std.proofs.Common.{◌≡◌, ℕ, ◌⊎◌, Some, None, Option, sym, ap, ◌∙◌, subst, inl, inr, ⊎_elim, arith}
+use Rattle.std.proofs.Common.{◌≡◌, ℕ, ◌⊎◌, Some, None, sym, ap, ◌∙◌, subst, inl, inr, ⊎_elim, arith}
 use Rattle.std.proofs.lemmas.Bool.{cases_lt, cases_eq}
+use Rattle.std.proofs.lemmas.Option.{same_Some}
 use Rattle.fabric.specs.declared.parts.Port.{Port}
 use Rattle.fabric.specs.declared.parts.Slot.{Slot}
 use Rattle.fabric.specs.Layouts.{Plan, Lawful, Exists, Missing, Leads}
@@ -29,7 +30,7 @@ module _ (p : Plan) (l : Lawful p) where
     where
       go : Exists p m × Exists p n → (p.distance m n ≡ 0) ⊎ (p.distance m n ≡ 0 → ⊥) → Leads p m n w
       go h (inl z) = cc (l.absent m n h.0 h.1 z)
-      go h (inr z) = let o = l.nearer m n h.0 h.1 z in subst (Leads p m n) (let same : o.0 ≡ w = cc in same) o.2
+      go h (inr z) = let o = l.nearer m n h.0 h.1 z in subst (Leads p m n) (same_Some o.0 w (sym o.1 ∙ e)) o.2
 
   -- a far end of a node that exists is at a node that exists: else it would lead back to itself
   pub far_exists : (n : ℕ) (s : Port) → Exists p n → Exists p (p.far n s).node

@@ -1,5 +1,5 @@
 // The mesh: nodes in rows and columns.
-ghost use Rattle.std.specs.Prelude.{◌≡◌, ◌<◌};
+ghost use Rattle.std.specs.Prelude.{◌≡◌, ◌/◌, ◌%◌, ◌<◌};
 ghost use Rattle.fabric.specs.Verdicts.{granting};
 ghost use Rattle.fabric.specs.Refusals.{shown};
 ghost use Rattle.fabric.specs.Meshes.{Fair, mesh_plan, mesh_verdict, spot};
@@ -29,6 +29,13 @@ impl Mesh {
         }
     }
 
+    // The node's column and row.
+    fn column_and_row(&self, node: usize) -> (usize, usize)
+        ensures { result ≡ (node % self.now.width, node / self.now.width) }
+    {
+        (node % self.width, node / self.width)
+    }
+
     // The slot of the node in this column and row.
     fn slot(&self, column: usize, row: usize, port: Port) -> Slot
         requires { (column < self.now.width) × (row < self.now.height) }
@@ -55,8 +62,7 @@ impl Layout for Mesh {
         if node >= self.nodes() {
             return here;
         }
-        let column = node % self.width;
-        let row = node / self.width;
+        let (column, row) = self.column_and_row(node);
         match port {
             Port::N if row > 0 => self.slot(column, row - 1, Port::S),
             Port::E if column + 1 < self.width => self.slot(column + 1, row, Port::W),
@@ -71,8 +77,10 @@ impl Layout for Mesh {
         if from >= nodes || to >= nodes {
             return 0;
         }
-        let columns = (from % self.width).abs_diff(to % self.width);
-        let rows = (from / self.width).abs_diff(to / self.width);
+        let (column, row) = self.column_and_row(from);
+        let (aim_column, aim_row) = self.column_and_row(to);
+        let columns = column.abs_diff(aim_column);
+        let rows = row.abs_diff(aim_row);
         columns + rows
     }
 
@@ -81,8 +89,8 @@ impl Layout for Mesh {
         if from >= nodes || to >= nodes {
             return None;
         }
-        let (column, row) = (from % self.width, from / self.width);
-        let (aim_column, aim_row) = (to % self.width, to / self.width);
+        let (column, row) = self.column_and_row(from);
+        let (aim_column, aim_row) = self.column_and_row(to);
         match (column.cmp(&aim_column), row.cmp(&aim_row)) {
             (Ordering::Less, _) => Some(Port::E),
             (Ordering::Greater, _) => Some(Port::W),

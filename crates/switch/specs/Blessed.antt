@@ -2,6 +2,7 @@
 use Rattle.std.specs.Prelude.{◌≡◌, ℕ, zero, suc, ◌+◌, ◌*◌, ◌<◌, ◌⊎◌, List, [], ◌∷◌, Some, None, Option, ◌≢◌, refl}
 use Rattle.std.proofs.Common.{sym, ◌∙◌, ap, subst, subst₂, inl, inr, arith, eq-eqb, ne_eqb}
 use Rattle.std.proofs.lemmas.Bool.{cases_lt}
+use Rattle.std.proofs.lemmas.Option.{same_Some}
 use Rattle.fabric.specs.declared.parts.Port.{Port}
 use Rattle.fabric.specs.declared.parts.Port.TheVariants.{N, E, S, W}
 use Rattle.fabric.specs.declared.parts.Flit.{Flit}
@@ -9,7 +10,7 @@ use Rattle.fabric.specs.Ports.{place_of}
 use Rattle.switch.specs.Switches.{Handing, Golden, Carried, at}
 use Rattle.switch.specs.Blesses.{standing, Lower, Before, Taken, looked_at, Leaves, later, bless_turn}
 use Rattle.switch.specs.Ranked.{Best, best_passes, golden_or_plain}
-use Rattle.switch.specs.Ordered.{place_small, same_or_not, some_is, none_some, before_irr, before_trans, rises, leaves_same, bless_lawful}
+use Rattle.switch.specs.Ordered.{place_small, same_or_not, before_irr, before_trans, rises, leaves_same, bless_lawful}
 
 -- nothing ranks before the lowest golden flit
 pub bless_leads : (h : Handing) (s : Port) (f : Flit) → Best h s f → (w : Port) → at h.wishes s ≡ Some w → (bless_turn h).to s ≡ w
@@ -42,13 +43,13 @@ before_golden h r s g f G F l = record {
 golden_before : (h : Handing) (r s : Port) (f : Flit) → Golden h s f → Before h r s → (g : Flit) × Golden h r g × Lower (golden_at g.number r) (golden_at f.number s)
 golden_before h r s f F b =
     let l : Lower (standing h b.one r) (golden_at f.number s) =
-    subst (Lower (standing h b.one r)) (ap (λ (x : Flit). standing h x s) (some_is b.other f _ b.in_other F.0) ∙ standing_golden h f s F.1) b.lower in
+    subst (Lower (standing h b.one r)) (ap (λ (x : Flit). standing h x s) (same_Some b.other f (sym b.in_other ∙ F.0)) ∙ standing_golden h f s F.1) b.lower in
     elim (golden_or_plain h r) [
       | inl G ↦ (
         G.0,
         G.1,
         subst (λ (xs : List ℕ). Lower xs (golden_at f.number s))
-            (ap (λ (x : Flit). standing h x r) (some_is b.one G.0 _ b.in_one G.1.0) ∙ standing_golden h G.0 r G.1.1) l,
+            (ap (λ (x : Flit). standing h x r) (same_Some b.one G.0 (sym b.in_one ∙ G.1.0)) ∙ standing_golden h G.0 r G.1.1) l,
       )
       | inr p ↦ absurd (last (rw (ne_eqb b.one.ticket h.golden (λ e. p b.one (b.in_one, e))) at l))
     ]
@@ -99,10 +100,10 @@ settled T wish p q a b = elim (same_or_not p q) [ inl e ↦ e | inr n ↦ absurd
     ]
 
     out : (v : Port) → wish ≡ Some v → (p ≢ q) → T v → ⊥
-    out v e ne t = apart ne (λ w d. subst T (some_is v w wish e d) t)
+    out v e ne t = apart ne (λ w d. subst T (same_Some v w (sym e ∙ d)) t)
 
     go : (p ≢ q) → (o : Option Port) → wish ≢ o
-    go ne None e = apart ne (λ w d. absurd (none_some w wish e d))
+    go ne None e = apart ne (λ w d. cc)
     go ne (Some v) e = ne (a.wished v e (out v e ne) ∙ sym (b.wished v e (out v e ne)))
 
 pub bless_steady : (h k : Handing) → Carried h k → Carried k h → (s : Port) (f : Flit) → Golden h s f → (bless_turn h).to s ≡ (bless_turn k).to s

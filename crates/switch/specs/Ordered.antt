@@ -2,6 +2,7 @@
 use Rattle.std.specs.Prelude.{◌≡◌, ℕ, zero, suc, ◌<◌, Bool, true, false, cond, not, ◌&&◌, ◌||◌, ◌⊎◌, List, [], ◌∷◌, Some, None, Option, ◌==◌, ◌≢◌, nat_lt, refl}
 use Rattle.std.proofs.Common.{sym, ◌∙◌, ap, subst, inl, inr, ⊎_elim, true≢false, arith, ltb-true, ltb-false}
 use Rattle.std.proofs.lemmas.Bool.{cases_eq, false≢true}
+use Rattle.std.proofs.lemmas.Option.{same_Some}
 use Rattle.std.proofs.lemmas.Bool.Decides.{eqb_tells}
 use Rattle.fabric.specs.declared.parts.Port.{Port}
 use Rattle.fabric.specs.declared.parts.Port.TheVariants.{N, E, S, W}
@@ -46,12 +47,6 @@ lower_trans (x ∷ xs) (y ∷ ys) (z ∷ zs) (inl l) (inr m) = inl (omega (arith
 lower_trans (x ∷ xs) (y ∷ ys) (z ∷ zs) (inr l) (inl m) = inl (omega (arith, l.0))
 lower_trans (x ∷ xs) (y ∷ ys) (z ∷ zs) (inr l) (inr m) = inr (l.0 ∙ m.0, lower_trans xs ys zs l.1 m.1)
 
-pub some_is : {A : Type 0} (f g : A) (o : Option A) → o ≡ Some f → o ≡ Some g → f ≡ g
-some_is f g o p q = cc
-
-pub none_some : {A : Type 0} (f : A) (o : Option A) → o ≡ None → o ≢ Some f
-none_some f o e p = cc
-
 -- one more number compared
 less : (a b : ℕ) (rest : Bool) (R : Type 0) → cond (a == b) rest (nat_lt a b) ≡ true → (rest ≡ true → R) → (a < b) ⊎ ((a ≡ b) × R)
 less a b rest R e more = elim (eqb_tells a b) [
@@ -91,7 +86,7 @@ module _ (h : Handing) where
   pub before_irr : (s : Port) → Before h s s → ⊥
   before_irr s b =
       lower_irr (standing h b.one s)
-      (subst (λ (f : Flit). Lower (standing h b.one s) (standing h f s)) (some_is b.other b.one _ b.in_other b.in_one) b.lower)
+      (subst (λ (f : Flit). Lower (standing h b.one s) (standing h f s)) (same_Some b.other b.one (sym b.in_other ∙ b.in_one)) b.lower)
 
   pub before_trans : (r s t : Port) → Before h r s → Before h s t → Before h r t
   before_trans r s t b c = record {
@@ -100,16 +95,16 @@ module _ (h : Handing) where
     in_one = b.in_one;
     in_other = c.in_other;
     lower = lower_trans (standing h b.one r) (standing h b.other s) (standing h c.other t) b.lower
-        (subst (λ (f : Flit). Lower (standing h f s) (standing h c.other t)) (some_is c.one b.other _ c.in_one b.in_other) c.lower);
+        (subst (λ (f : Flit). Lower (standing h f s) (standing h c.other t)) (same_Some c.one b.other (sym c.in_one ∙ b.in_other)) c.lower);
   }
 
   pub rises : (s r : Port) (p q : Option Flit) → at h.places s ≡ p → at h.places r ≡ q → (g : Flit) → p ≡ Some g → outranked h.golden p q ≡ true → Before h r s
   rises s r p None u v g e o = absurd (false≢true o)
-  rises s r None (Some k) u v g e o = absurd (none_some g None refl e)
+  rises s r None (Some k) u v g e o = cc
   rises s r (Some f) (Some k) u v g e o = record { one = k; other = f; in_one = v; in_other = u; lower = lower_if f k s r (rank_of h.golden f) (rank_of h.golden k) o }
 
   stands : (s r : Port) (p q : Option Flit) → at h.places s ≡ p → at h.places r ≡ q → place_of s < place_of r → (g : Flit) → q ≡ Some g → outranked h.golden p q ≡ false → Before h s r
-  stands s r p None u v l g e o = absurd (none_some g None refl e)
+  stands s r p None u v l g e o = cc
   stands s r None (Some k) u v l g e o = absurd (true≢false o)
   stands s r (Some f) (Some k) u v l g e o = record { one = f; other = k; in_one = u; in_other = v; lower = lower_unless f k s r (rank_of h.golden f) (rank_of h.golden k) l o }
 
