@@ -40,7 +40,7 @@ cases_slot : (s t : Slot) → (s ≡ t) ⊎ (s ≡ t → ⊥)
 cases_slot s t = ⊎_elim (λ e. inl (index_inj s t e)) (λ e. inr (λ f. e (ap index f))) (cases_eq (index s) (index t))
 
 none_some : (o : Option Slot) (t : Slot) → o ≡ None → o ≡ Some t → ⊥
-none_some o t e f = let z : ◌≡◌ {A = ℕ} 0 1 = cc in omega arith
+none_some o t e f = cc
 
 same_some : (o : Option Slot) (s t : Slot) → o ≡ Some s → o ≡ Some t → s ≡ t
 same_some o s t e f = cc
