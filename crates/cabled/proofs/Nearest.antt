@@ -1,7 +1,8 @@
 -- The rounds find the fewest steps.
-use Rattle.std.proofs.Common.{◌≡◌, ℕ, zero, suc, ◌+◌, ◌-◌, ◌<◌, ◌≤◌, Bool, true, false, cond, ◌||◌, ltb, ◌⊎◌, List, get_or, set, replicate, Some, None, Option, unwrap_or, sym, refl, ap, ◌∙◌, subst, inl, inr, ⊎_elim, add-one, arith}
+use Rattle.std.proofs.Common.{◌≡◌, ℕ, zero, suc, ◌+◌, ◌-◌, ◌<◌, ◌≤◌, Bool, true, false, cond, ltb, ◌⊎◌, List, [], ◌∷◌, get_or, set, replicate, Some, None, Option, unwrap_or, sym, refl, ap, ◌∙◌, subst, inl, inr, ⊎_elim, add-one, arith}
 use Rattle.std.proofs.lemmas.List.{get_or-set_same, get_or-set_other, get_or-replicate, length-replicate}
-use Rattle.std.proofs.lemmas.Bool.{eqb-true, eq-eqb, lt-ltb, le-ltb, cond-true, cond-false, both_ways, false≢true, or_cases, or_left, or_right, cases_eq, cases_lt}
+use Rattle.std.proofs.lemmas.List.Folds.{Any-from_list_any}
+use Rattle.std.proofs.lemmas.Bool.{eqb-true, eq-eqb, lt-ltb, le-ltb, cond-true, cond-false, both_ways, false≢true, or_left, or_right, cases_eq, cases_lt}
 use Rattle.std.specs.Bool.{then_some}
 use Rattle.std.specs.Option.{option_or}
 use Rattle.fabric.specs.declared.parts.Port.{Port}
@@ -9,13 +10,7 @@ use Rattle.fabric.specs.declared.parts.Port.TheVariants.{N, E, S, W}
 use Rattle.cabled.specs.Levels.{any, at, again, Way, Found, Level}
 
 any_some : (f : Port → Bool) → any f ≡ true → (p : Port) × (f p ≡ true)
-any_some f e =
-    ⊎_elim (λ a. (N, a))
-    (λ r.
-    ⊎_elim (λ a. (E, a))
-    (λ q. ⊎_elim (λ a. (S, a)) (λ w. ⊎_elim (λ a. (W, a)) (λ a. absurd (false≢true a)) (or_cases (f W) false w)) (or_cases (f S) (f W || false) q))
-    (or_cases (f E) (f S || (f W || false)) r))
-    (or_cases (f N) (f E || (f S || (f W || false))) e)
+any_some f e = let a = Any-from_list_any f (N ∷ E ∷ S ∷ W ∷ []) e in (a.1, a.4)
 
 some_any : (f : Port → Bool) (p : Port) → f p ≡ true → any f ≡ true
 some_any f N e = or_left _ _ e

@@ -40,7 +40,7 @@ cases_slot : (s t : Slot) → (s ≡ t) ⊎ (s ≡ t → ⊥)
 cases_slot s t = ⊎_elim (λ e. inl (index_inj s t e)) (λ e. inr (λ f. e (ap index f))) (cases_eq (index s) (index t))
 
 none_some : (o : Option Slot) (t : Slot) → o ≡ None → o ≡ Some t → ⊥
-none_some o t e f = let z : ◌≡◌ {A = ℕ} 0 1 = cc in omega arith
+none_some o t e f = cc
 
 same_some : (o : Option Slot) (s t : Slot) → o ≡ Some s → o ≡ Some t → s ≡ t
 same_some o s t e f = cc
@@ -62,13 +62,10 @@ inside k ts paired u p l = (paired (record { node = u; port = p }) l).0
 
 -- without cables
 pub paired_none : (k : ℕ) → k ≤ 64 → Paired k (replicate 256 None)
-paired_none k few s l = both (far_at (replicate 256 None) s) (ap (λ o. unwrap_or o s) (get_or-replicate 256 (index s) None None (index_lt s (omega arith))))
+paired_none k few s l = (omega (arith, ap (λ (x : Slot). x.node) own), ap (far_at (replicate 256 None)) own ∙ own)
   where
-    both : (t : Slot) → t ≡ s → (t.node < k) × (far_at (replicate 256 None) t ≡ s)
-    both t e = (omega (arith, ap (λ (x : Slot). x.node) e), ap (far_at (replicate 256 None)) e ∙ own)
-      where
-        own : far_at (replicate 256 None) s ≡ s
-        own = ap (λ o. unwrap_or o s) (get_or-replicate 256 (index s) None None (index_lt s (omega arith)))
+    own : far_at (replicate 256 None) s ≡ s
+    own = ap (λ o. unwrap_or o s) (get_or-replicate 256 (index s) None None (index_lt s (omega arith)))
 
 pub wired_none : (k : ℕ) (cs : List Cable) → Wired k 0 cs (replicate 256 None)
 wired_none k cs = record {
