@@ -61,9 +61,7 @@ impl<'a> Writer<'a> {
         ensures line { LineOut self.old (stamped_line cycle kind.now (first ∷ more.now)) self.new (shown result) }
         ensures lender { SameLender self.old self.new }
     {
-        if after_stamped(self.room(), cycle, kind, first, more).is_none() {
-            return Err(Refusal::Memory);
-        }
+        after_stamped(self.room(), cycle, kind, first, more).ok_or(Refusal::Memory)?;
         self.number(cycle);
         self.word(kind);
         self.next(first);
