@@ -12,8 +12,9 @@ use Rattle.text.specs.declared.fault.Fault.{Fault}
 use Rattle.runsheet.specs.declared.parts.SwitchKind.{SwitchKind}
 use Rattle.runsheet.specs.declared.parts.SwitchKind.TheVariants.{Chipper, Bless}
 use Rattle.text.specs.Faults.{told}
-use Rattle.runsheet.specs.Said.{Said}
-use Rattle.runsheet.specs.Sheets.{SheetText, Refused}
+use Rattle.runsheet.specs.declared.sheet.Sheet.{Sheet}
+use Rattle.runsheet.specs.Said.{Said, said}
+use Rattle.runsheet.specs.Sheets.{SheetText, Refused, Formed}
 use Rattle.text.specs.Texts.{written}
 use Rattle.laying.specs.Reports.{Report, then}
 use Rattle.laying.specs.Reports.Report.{answers, faults}
@@ -61,6 +62,10 @@ pub data WrittenOut (text memory : List ℕ) : Verdict ℕ → List ℕ → Type
 pub record Blank (w : Writer) : Type 0 where
   pub none : listed w ≡ []
   pub room : 65536 ≤ length (beyond w)
+
+-- a sheet of its form is to be run, and nothing is written yet
+abbrev pub Runnable : Sheet → Writer → Type 0
+Runnable s w = Formed 128 256 (said s) × Blank w
 
 -- these bytes are written
 pub record Holds (w : Writer) (bs : List ℕ) (v : Writer) : Type 0 where

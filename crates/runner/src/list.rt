@@ -1,9 +1,8 @@
 // The listing of a run sheet, or of its fault.
 ghost use Rattle.fabric.specs.Refusals.{shown};
 ghost use Rattle.runsheet.specs.Said.{said};
-ghost use Rattle.runsheet.specs.Sheets.{Formed};
 ghost use Rattle.writer.specs.Listings.{SameLender};
-ghost use Rattle.runner.specs.Answering.{made_of, network_of, WrittenOut, Blank, Ran, Ended, Carried};
+ghost use Rattle.runner.specs.Answering.{made_of, network_of, WrittenOut, Blank, Runnable, Ran, Ended, Carried};
 ghost use Rattle.runner.specs.Only.{OneListing};
 
 use super::planned::Planned;
@@ -44,7 +43,7 @@ fn start<L: Layout + Drop, S: Switch + Drop>(
     sheet: &Sheet,
     writer: &mut Writer,
 ) -> Result<(), Refusal>
-    requires { (Formed 128 256 (said sheet.now)) × (Blank writer.old) }
+    requires { Runnable sheet.now writer.old }
     ensures ran { Ran (made_of (L.plan layout) (S.turn switch)) (said sheet.now) writer.old writer.new (shown result) }
     ensures lender { SameLender writer.old writer.new }
 {
@@ -70,7 +69,7 @@ fn run<L: Layout + Drop, S: Switch + Drop>(
     sheet: &Sheet,
     writer: &mut Writer,
 ) -> Result<(), Fault>
-    requires { (Formed 128 256 (said sheet.now)) × (Blank writer.old) }
+    requires { Runnable sheet.now writer.old }
     ensures ended { Ended (made_of (L.plan layout) (S.turn switch)) (said sheet.now) writer.old writer.new result }
     ensures lender { SameLender writer.old writer.new }
 {
@@ -79,7 +78,7 @@ fn run<L: Layout + Drop, S: Switch + Drop>(
 
 // The sheet's run on this layout, with the sheet's kind of switch.
 fn run_on<L: Layout + Drop>(layout: L, sheet: &Sheet, writer: &mut Writer) -> Result<(), Fault>
-    requires { (Formed 128 256 (said sheet.now)) × (Blank writer.old) }
+    requires { Runnable sheet.now writer.old }
     ensures ended { Ended (network_of (L.plan layout) (said sheet.now)) (said sheet.now) writer.old writer.new result }
     ensures lender { SameLender writer.old writer.new }
 {

@@ -1,9 +1,12 @@
 -- One text written after another.
-use Rattle.std.proofs.Common.{◌≡◌, ℕ, zero, suc, ◌+◌, ◌*◌, ◌/◌, ◌%◌, ◌^◌, ◌<◌, ◌≤◌, true, false, List, [], ◌∷◌, ◌++◌, map, length, get_or, take, drop, is_some, IfSome, IfNone, unwrap_or, Some, None, codes, decimal, Option, sym, refl, ap, ◌∙◌, subst, append_assoc, arith}
+use Rattle.std.proofs.Common.{◌≡◌, ℕ, zero, suc, ◌+◌, ◌*◌, ◌/◌, ◌%◌, ◌^◌, ◌<◌, ◌≤◌, true, false, List, [], ◌∷◌, ◌++◌, map, length, get_or, take, drop, is_some, IfSome, IfNone, unwrap_or, Some, None, Err, Result, codes, decimal, Option, sym, refl, ap, ◌∙◌, subst, append_assoc, arith}
 use Rattle.std.specs.List.{flat_map}
+use Rattle.std.specs.Option.{ok_or}
 use Rattle.std.proofs.Math.Nat.{pow-succ'}
 use Rattle.std.proofs.lemmas.Fmt.{decimal_step, decimal_digit, length-decimal-le}
-use Rattle.std.proofs.lemmas.List.{append-nil, length-append, length_push, length-drop, drop-drop, take_more, map_push, flat_map_more}
+use Rattle.std.proofs.lemmas.List.{append-nil, length-append, length_push, drop-drop, take_more, map_push, flat_map_more}
+use Rattle.fabric.specs.declared.refusal.Refusal.{Refusal}
+use Rattle.fabric.specs.declared.refusal.Refusal.TheVariants.{Memory}
 use Rattle.text.specs.Texts.{Field, word, number, shown, row, written}
 use Rattle.text.specs.Faults.{layer_word}
 use Rattle.text.specs.declared.fault.Layer.{Layer}
@@ -116,3 +119,7 @@ too_few (Some x) e h = absurd (let z : ◌≡◌ {A = ℕ} 0 1 = cc in let n : �
 pub enough : {room taken : ℕ} (r : Option ℕ) → is_some r ≡ true → Leaves room taken r → taken ≤ room
 enough None e h = absurd (let z : ◌≡◌ {A = ℕ} 0 1 = cc in let n : ⊥ = omega arith in n)
 enough (Some x) e h = omega arith
+
+pub no_memory : (r : Option ℕ) (x : Refusal) → ◌≡◌ {A = Result ℕ Refusal} (Err x) (ok_or r Memory) → false ≡ is_some r → x ≡ Memory
+no_memory None x e h = cc
+no_memory (Some n) x e h = absurd (let z : ◌≡◌ {A = ℕ} 0 1 = cc in let k : ⊥ = omega arith in k)

@@ -27,21 +27,18 @@ impl<L: Layout, S: Switch> Session<L, S> {
         ensures parts { SameParts self.old.network self.new.network }
         ensures lender { SameLender writer.old writer.new }
     {
-        let aim = self.aims[ticket];
-        let Some(receiver) = aim else {
+        let Some(receiver) = self.aims[ticket] else {
             return Ok(());
         };
         let mut words = [0; WORDS];
         let sender = ticket / self.tickets;
         let own = ticket % self.tickets;
-        match self.network.collect(receiver, sender, own, &mut words) {
-            Ok(count) => {
-                self.aims[ticket] = None;
-                writer.done(cycle, ticket as u32, &words[..count])
-            }
+        let Ok(count) = self.network.collect(receiver, sender, own, &mut words) else {
             // it is not complete yet
-            Err(_) => Ok(()),
-        }
+            return Ok(());
+        };
+        self.aims[ticket] = None;
+        writer.done(cycle, ticket as u32, &words[..count])
     }
 
     // In rising order.

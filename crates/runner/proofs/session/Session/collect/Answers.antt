@@ -37,8 +37,8 @@ slice_bounds-done-end g c =
     sym (length-take-le c.in-Ok.count c.collect.new.memory
     (in_memory F x.settings (g.met.L.Layout.lawful n.layout) x.stands c.args.ticket c.requires.numbers.1 _ _ _ _ c.in-Ok.ensures.promised))
 
-pub returns-in-Ok-clause-tried : goal.returns-in-Ok-clause-tried
-returns-in-Ok-clause-tried g c =
+pub returns-clause-tried : goal.returns-clause-tried
+returns-clause-tried g c =
     let n = c.args.self.now.network in
     let F = fabric_of g.L.Layout.plan g.S.Switch.turn n in
     let law = g.met.L.Layout.lawful n.layout in
@@ -63,12 +63,12 @@ returns-in-Ok-clause-tried g c =
           },
     )
 
-pub returns-in-Err-clause-tried : goal.returns-in-Err-clause-tried
-returns-in-Err-clause-tried g c =
+pub returns-in_default-collect-clause-tried : goal.returns-in_default-collect-clause-tried
+returns-in_default-collect-clause-tried g c =
     let n = c.args.self.now.network in
     let F = fabric_of g.L.Layout.plan g.S.Switch.turn n in
     let law = g.met.L.Layout.lawful n.layout in
-    let e = c.in-Err.ensures in (
+    let e = c.in_default-collect.ensures in (
       refl,
       λ P M s ls es o st.
           let z = not_yet F P law st c.args.ticket c.requires.numbers.1 c.args.cycle _ _ _ _ _ c.in-Some.is refl e.promised in
