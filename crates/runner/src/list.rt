@@ -30,14 +30,8 @@ const MEMORY: usize = 65536;
 
 const PACKETS: usize = 256;
 
-const NO_PACKET: Packet = Packet {
-    cycle: 0,
-    node: 0,
-    own: 0,
-    destination: 0,
-    count: 0,
-    words: [0; 4],
-};
+// The line of a sheet's run.
+const RUN_LINE: u8 = 3;
 
 // The packets wait in the order of the sheet.
 fn plan_all(packets: &[Packet], planned: &mut Line<Packet>) -> Result<(), Refusal>
@@ -77,7 +71,7 @@ fn start<L: Layout + Drop, S: Switch + Drop>(
             waited: 0,
         },
     };
-    let mut places = [NO_PACKET; PACKETS];
+    let mut places = [Packet::default(); PACKETS];
     let mut planned = Line::new(&mut places);
     plan_all(sheet.packets(), &mut planned)?;
     session.play(sheet.run.cycles, &mut planned, writer)
@@ -93,9 +87,10 @@ fn run<L: Layout + Drop, S: Switch + Drop>(
     ensures ended { Ended (record { plan = L.plan layout; turn = S.turn switch }) (said sheet.now) writer.old writer.new result }
     ensures lender { writer.new.memory.ghost_name ≡ writer.old.memory.ghost_name }
 {
+    // A match: what `map_err` ensures is not proved in a function with the type parameters L and S.
     match start(layout, switch, sheet, writer) {
         Ok(()) => Ok(()),
-        Err(refusal) => Err(at_run_line(refusal)),
+        Err(refusal) => Err(at_run_line::<RUN_LINE>(refusal)),
     }
 }
 
@@ -123,7 +118,7 @@ fn carry_out(bytes: &[u8], writer: &mut Writer) -> Result<(), Fault>
             run_on(mesh, &sheet, writer)
         }
         Shape::Cabled { nodes } => {
-            let layout = lay_cables(nodes, &sheet)?;
+            let layout = lay_cables::<RUN_LINE>(nodes, sheet.cables())?;
             run_on(layout, &sheet, writer)
         }
     }

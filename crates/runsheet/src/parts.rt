@@ -11,7 +11,7 @@ pub enum SwitchKind {
 }
 
 // A planned packet: when it is offered and by whom, and its words, the first `count` of four.
-#[derive(Clone, Copy, PartialEq, Eq, Debug)]
+#[derive(Clone, Copy, PartialEq, Eq, Default, Debug)]
 pub struct Packet {
     pub cycle: u32,
     pub node: u32,

@@ -29,23 +29,6 @@ const NO_CABLE: Cable = Cable {
     other: NO_SLOT,
 };
 
-const NO_PACKET: Packet = Packet {
-    cycle: 0,
-    node: 0,
-    own: 0,
-    destination: 0,
-    count: 0,
-    words: [0; 4],
-};
-
-const NO_RUN: Run = Run {
-    tickets: 0,
-    words: 0,
-    epoch: 0,
-    seed: 0,
-    cycles: 0,
-};
-
 // What the next line has to be.
 #[derive(Clone, Copy)]
 enum Section {
@@ -117,11 +100,11 @@ impl Reader {
                 height: 0,
             },
             kind: SwitchKind::Chipper,
-            run: NO_RUN,
+            run: Run::default(),
             cables: [NO_CABLE; MOST_CABLES],
             wires: 0,
             wired: 0,
-            packets: [NO_PACKET; MOST_PACKETS],
+            packets: [Packet::default(); MOST_PACKETS],
             plans: 0,
             planned: 0,
             last: 0,

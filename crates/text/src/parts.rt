@@ -11,7 +11,7 @@ pub enum Shape {
 }
 
 // The run's line: the settings of the network, and the cycles to carry out.
-#[derive(Clone, Copy, PartialEq, Eq, Debug)]
+#[derive(Clone, Copy, PartialEq, Eq, Default, Debug)]
 pub struct Run {
     // the tickets of each node
     pub tickets: u32,

@@ -18,7 +18,7 @@ returns-in_err-mesh-in-Mesh c =
     let s = said c.in_ok-sheet.sheet in
     record {
       carried = faulted c.args.bytes.now _ _ (err_from_is_err_and _ c.from_residual-in_err-mesh-in-Mesh.ensures.1) refl
-          (inl (s, read, no_layout s _ (as_read _ _ _ c.in-Mesh.is c.in_err-mesh-in-Mesh.ensures)));
+          (inl (s, read, no_layout s _ (as_read 3 _ _ _ c.in-Mesh.is refl (c.in_err-mesh-in-Mesh.ensures 3))));
       lender = refl;
     }
 
@@ -28,7 +28,7 @@ returns-in_err-layout-in-Cabled c =
     let s = said c.in_ok-sheet.sheet in
     record {
       carried = faulted c.args.bytes.now _ _ (err_from_is_err_and _ c.from_residual-in_err-layout-in-Cabled.ensures.1) refl
-          (inl (s, read, no_layout s _ (as_read _ _ _ c.in-Cabled.is c.in_err-layout-in-Cabled.ensures)));
+          (inl (s, read, no_layout s _ (as_read 3 _ _ _ c.in-Cabled.is c.cables.ensures c.in_err-layout-in-Cabled.ensures)));
       lender = refl;
     }
 
@@ -36,7 +36,7 @@ pub returns-in_ok-mesh-in-Mesh : goal.returns-in_ok-mesh-in-Mesh
 returns-in_ok-mesh-in-Mesh c =
     let e = c.run_on.ensures in
     record {
-      carried = on_layout c.args.bytes.now _ _ _ c.in_ok-sheet.ensures _ (as_read _ _ _ c.in-Mesh.is c.in_ok-mesh-in-Mesh.ensures) _ e.ended;
+      carried = on_layout c.args.bytes.now _ _ _ c.in_ok-sheet.ensures _ (as_read 3 _ _ _ c.in-Mesh.is refl (c.in_ok-mesh-in-Mesh.ensures 3)) _ e.ended;
       lender = e.lender;
     }
 
@@ -44,6 +44,6 @@ pub returns-in_ok-layout-in-Cabled : goal.returns-in_ok-layout-in-Cabled
 returns-in_ok-layout-in-Cabled c =
     let e = c.run_on-in-Cabled.ensures in
     record {
-      carried = on_layout c.args.bytes.now _ _ _ c.in_ok-sheet.ensures _ (as_read _ _ _ c.in-Cabled.is c.in_ok-layout-in-Cabled.ensures) _ e.ended;
+      carried = on_layout c.args.bytes.now _ _ _ c.in_ok-sheet.ensures _ (as_read 3 _ _ _ c.in-Cabled.is c.cables.ensures c.in_ok-layout-in-Cabled.ensures) _ e.ended;
       lender = e.lender;
     }
