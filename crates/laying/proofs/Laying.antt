@@ -1,10 +1,16 @@
--- What the verdicts on a sheet's lines make of a report.
-use Rattle.std.proofs.Common.{◌≡◌, ℕ, ◌<◌, ◌≤◌, List, length, get_or, Err, Result, sym, subst, arith}
+-- What the verdicts on a text's lines make of a report.
+use Rattle.std.proofs.Common.{◌≡◌, ℕ, zero, suc, ◌+◌, ◌*◌, ◌<◌, ◌≤◌, false, true, ◌||◌, eqb, List, [], ◌∷◌, length, get_or, Err, Result, sym, refl, ap, subst, inl, ⊎_elim, arith}
+use Rattle.std.specs.List.{AllByRecursion, IsDistinct, list_any}
+use Rattle.std.proofs.lemmas.Bool.{cases_Bool, eqb-true, ne_eqb}
+use Rattle.std.proofs.lemmas.Map.Steps.{length-le_from_distinct_below}
 use Rattle.fabric.specs.declared.parts.Cable.{Cable}
+use Rattle.fabric.specs.declared.parts.Port.{Port}
+use Rattle.fabric.specs.declared.parts.Port.TheVariants.{N, E, S, W}
+use Rattle.fabric.specs.declared.parts.Slot.{Slot}
 use Rattle.fabric.specs.Layouts.{Plan}
 use Rattle.fabric.specs.Verdicts.{Verdict}
 use Rattle.fabric.specs.Verdicts.Verdict.{granted, refused}
-use Rattle.cabled.specs.Cables.{Cabling, lone}
+use Rattle.cabled.specs.Cables.{Cabling, lone, rank, cable_at, Fair, Good, AllGood}
 use Rattle.cabled.specs.Cables.Cabling.{unfair, bad, unreached, cabled}
 use Rattle.text.specs.declared.fault.Fault.{Fault}
 use Rattle.text.specs.declared.parts.Shape.{Shape}
@@ -14,9 +20,9 @@ use Rattle.laying.specs.Reports.Report.{faults}
 use Rattle.laying.specs.Layings.{Laid}
 
 -- what is cabled, seen as plans
-pub as_plans : {A : Type 0} (plan : A → Plan) {k : ℕ} {cs ds : List Cable} {x y : A} {v : Verdict Unit} → plan x ≡ lone → cs ≡ ds →
-    Cabling plan k cs x y v → Cabling (λ q. q) k ds lone (plan y) v
-as_plans plan {k} {cs} {ds} {x} {y} {v} e d h = subst (λ (es : List Cable). Cabling (λ q. q) k es lone (plan y) v) d (go h)
+pub as_plans : {A : Type 0} (plan : A → Plan) {k : ℕ} {cs : List Cable} {x y : A} {v : Verdict Unit} → plan x ≡ lone →
+    Cabling plan k cs x y v → Cabling (λ q. q) k cs lone (plan y) v
+as_plans plan {k} {cs} {x} e = go
   where
     same : {v : Verdict Unit} → Cabling (λ q. q) k cs lone lone v → Cabling (λ q. q) k cs lone (plan x) v
     same {v} = subst (λ (p : Plan). Cabling (λ q. q) k cs lone p v) (sym e)
@@ -27,21 +33,104 @@ as_plans plan {k} {cs} {ds} {x} {y} {v} e d h = subst (λ (es : List Cable). Cab
     go (unreached f g n l h) = same (unreached f g n l h)
     go (cabled f g h m) = cabled f g h m
 
+-- a slot's number
+abbrev slot_number : Slot → ℕ
+slot_number s = s.node * 4 + rank s.port
+
+rank_below : (p : Port) → rank p < 4
+rank_below N = omega arith
+rank_below E = omega arith
+rank_below S = omega arith
+rank_below W = omega arith
+
+same_port : (p q : Port) → rank p ≡ rank q → p ≡ q
+same_port N N e = refl
+same_port N E e = absurd (omega arith)
+same_port N S e = absurd (omega arith)
+same_port N W e = absurd (omega arith)
+same_port E N e = absurd (omega arith)
+same_port E E e = refl
+same_port E S e = absurd (omega arith)
+same_port E W e = absurd (omega arith)
+same_port S N e = absurd (omega arith)
+same_port S E e = absurd (omega arith)
+same_port S S e = refl
+same_port S W e = absurd (omega arith)
+same_port W N e = absurd (omega arith)
+same_port W E e = absurd (omega arith)
+same_port W S e = absurd (omega arith)
+same_port W W e = refl
+
+same_slot : (s t : Slot) → slot_number s ≡ slot_number t → s ≡ t
+same_slot s t e =
+    let a = rank_below s.port in
+    let b = rank_below t.port in
+    let n : s.node ≡ t.node = omega arith in
+    let p : s.port ≡ t.port = same_port s.port t.port (omega arith) in
+    λ i. record { node = n i; port = p i }
+
+-- the numbers of the slots that the first n cables begin at
+abbrev heads : List Cable → ℕ → List ℕ
+heads cs zero = []
+heads cs (suc n) = slot_number (cable_at cs n).one ∷ heads cs n
+
+length_heads : (cs : List Cable) (n : ℕ) → length (heads cs n) ≡ n
+length_heads cs zero = refl
+length_heads cs (suc n) = ap suc (length_heads cs n)
+
+-- what is in a list has what all in it have
+among : (P : ℕ → Type 0) (xs : List ℕ) → AllByRecursion P xs → (q : ℕ) → list_any (eqb q) xs ≡ true → P q
+among P [] h q e = absurd (let z : ◌≡◌ {A = ℕ} 0 1 = cc in omega arith)
+among P (x ∷ xs) h q e =
+    ⊎_elim
+    (λ t. subst P (sym (eqb-true q x t)) h.0)
+    (λ f. among P xs h.1 q (subst (λ b. (b || list_any (eqb q) xs) ≡ true) f e))
+    (cases_Bool (eqb q x))
+
+module _ (k : ℕ) (cs : List Cable) (f : Fair k) where
+  heads_below : (n : ℕ) → AllGood k cs n → AllByRecursion (λ x. x < 256) (heads cs n)
+  heads_below zero g = tt
+  heads_below (suc n) g =
+      let c = cable_at cs n in
+      let there : c.one.node < k = (g n (omega arith)).there c.one c.other (inl (refl, refl)) in
+      let r = rank_below c.one.port in
+      let most = f.1 in
+      (omega arith, heads_below n (λ i l. g i (omega arith)))
+
+  apart : (n : ℕ) → Good k cs n → (m : ℕ) → m ≤ n → AllByRecursion (λ y. eqb (slot_number (cable_at cs n).one) y ≡ false) (heads cs m)
+  apart n g zero l = tt
+  apart n g (suc m) l =
+      let c = cable_at cs n in
+      let d = cable_at cs m in (
+        ne_eqb (slot_number c.one) (slot_number d.one) (λ e. g.fresh c.one c.other d.other (inl (refl, refl)) (m, omega arith, inl (sym (same_slot c.one d.one e), refl))),
+        apart n g m (omega arith),
+      )
+
+  distinct_heads : (n : ℕ) → AllGood k cs n → IsDistinct eqb (heads cs n)
+  unfolding IsDistinct
+  distinct_heads zero g = tt
+  distinct_heads (suc n) g = (apart n (g n (omega arith)) n (omega arith), distinct_heads n (λ i l. g i (omega arith)))
+
+  -- good cables begin at slots that are apart, and there are 256 slots
+  few_good : (n : ℕ) → AllGood k cs n → n ≤ 256
+  few_good n g =
+      subst (λ m. m ≤ 256) (length_heads cs n)
+      (length-le_from_distinct_below (heads cs n) 256 (distinct_heads n g) (among (λ x. x < 256) (heads cs n) (heads_below n g)))
+
 abbrev pub NamedBelow : Verdict Unit → Type 0
 NamedBelow (granted a) = Unit {0}
-NamedBelow (refused n named) = get_or named 0 0 < 128
+NamedBelow (refused n named) = get_or named 0 0 ≤ 256
 
--- a refusal names a cable of the list, or a node
-pub named_below : {A : Type 0} {plan : A → Plan} {k : ℕ} {cs : List Cable} {x y : A} {v : Verdict Unit} → length cs ≤ 128 →
-    Cabling plan k cs x y v → NamedBelow v
-named_below few (unfair h) = omega arith
-named_below few (bad f i l g h) = omega arith
-named_below few (unreached f g n l h) = let most = f.1 in omega arith
-named_below few (cabled f g h m) = tt
+-- a refusal names a cable that only good ones stand before, or a node
+pub named_below : {A : Type 0} {plan : A → Plan} {k : ℕ} {cs : List Cable} {x y : A} {v : Verdict Unit} → Cabling plan k cs x y v → NamedBelow v
+named_below (unfair h) = omega arith
+named_below {k} {cs} (bad f i l g h) = few_good k cs f i g
+named_below (unreached f g n l h) = let most = f.1 in omega arith
+named_below (cabled f g h m) = tt
 
--- the layout's lines of a sheet, by the shape that was read
-pub as_read : (s : Shape) {t : Shape} (cs : List Cable) (r : Report Plan) → s ≡ t → Laid t cs r → Laid s cs r
-as_read s cs r e h = subst (λ (u : Shape). Laid u cs r) (sym e) h
+-- the layout's lines of a text, by what was read of them
+pub as_read : (run : ℕ) (s : Shape) {t : Shape} (cs : List Cable) {ds : List Cable} (r : Report Plan) → s ≡ t → ds ≡ cs → Laid run t ds r → Laid run s cs r
+as_read run s {t} cs r e d h = subst (λ (u : Shape). Laid run u cs r) (sym e) (subst (λ (es : List Cable). Laid run t es r) d h)
 
 -- what the exit of a `?` reports
 pub reported_err : {A B : Type 0} (seen : A → B) (P : Report B → Type 0) (f : Fault) (r : Result A Fault) → (y : Fault) × (r ≡ Err y) × (y ≡ f) →

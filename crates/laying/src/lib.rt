@@ -1,67 +1,61 @@
-// Lays out what a sheet names: its layout and its settings, or the fault at the line that is refused.
+// Lays out what a text names: its layout and its settings, or the fault at the line that is refused.
+// RUN is the number of the line with the settings; the count of cables, if there is one, stands at the next.
 #![tactic(auto)]
 
-ghost use Rattle.std.specs.Prelude.{◌≡◌, ◌<◌, [], slice_index};
+ghost use Rattle.std.specs.Prelude.{◌≡◌, ℕ, ◌≤◌, [], slice_index};
 ghost use Rattle.fabric.specs.Meshes.{mesh_plan};
 ghost use Rattle.fabric.specs.Refusals.{number, numbered};
 ghost use Rattle.cabled.specs.Plans.{plan_of};
 ghost use Rattle.text.specs.declared.fault.Layer.TheVariants.{Network};
 ghost use Rattle.text.specs.declared.parts.Shape.{Shape as Form};
 ghost use Rattle.text.specs.Faults.{told};
-ghost use Rattle.runsheet.specs.Said.{said};
 ghost use Rattle.laying.specs.Layings.{layout_line, Laid, settings_of};
 ghost use Rattle.laying.specs.Reports.{reported};
 
 use bounds::settings::Settings;
 use cabled::cabled::Cabled;
 use fabric::mesh::Mesh;
+use fabric::parts::Cable;
 use fabric::refusal::Refusal;
-use runsheet::sheet::Sheet;
 use text::fault::{Fault, Layer};
 use text::parts::Run;
 
 const LAYOUT_LINE: u32 = 1;
 
-const RUN_LINE: u32 = 3;
-
-const CABLES_LINE: u32 = 4;
-
 // The line at which a layout is refused.
-fn line_of(refusal: Refusal) -> u32
-    requires { slice_index (numbered refusal).1 0 < 128 }
-    ensures { result ≡ layout_line (numbered refusal).0 (numbered refusal).1 }
+fn line_of<const RUN: u8>(refusal: Refusal) -> u32
+    requires { slice_index (numbered refusal).1 0 ≤ 256 }
+    ensures { result ≡ layout_line RUN (numbered refusal).0 (numbered refusal).1 }
 {
+    let cables_line = u32::from(RUN) + 1;
     match refusal {
-        Refusal::Cable(i) => CABLES_LINE + 1 + i as u32,
-        Refusal::Unreached(_) => CABLES_LINE,
+        Refusal::Cable(i) => cables_line + 1 + i as u32,
+        Refusal::Unreached(_) => cables_line,
         _ => LAYOUT_LINE,
     }
 }
 
 pub fn lay_mesh(width: u32, height: u32) -> Result<Mesh, Fault>
-    ensures { Laid (Form.Mesh width height) [] (reported (λ m. mesh_plan m.width m.height) result) }
+    ensures { (run : ℕ) → Laid run (Form.Mesh width height) [] (reported (λ m. mesh_plan m.width m.height) result) }
 {
-    match Mesh::new(width as usize, height as usize) {
-        Ok(mesh) => Ok(mesh),
-        Err(refusal) => Err(Fault {
-            refusal,
-            layer: Layer::Layout,
-            line: LAYOUT_LINE,
-        }),
-    }
+    Mesh::new(width as usize, height as usize).map_err(|refusal| Fault {
+        refusal,
+        layer: Layer::Layout,
+        line: LAYOUT_LINE,
+    })
 }
 
-// Joins so many nodes by the sheet's cables.
-pub fn lay_cables(nodes: u32, sheet: &Sheet) -> Result<Cabled, Fault>
-    ensures { Laid (Form.Cabled nodes) (said sheet.now).cables (reported plan_of result) }
+// Joins so many nodes by the cables.
+pub fn lay_cables<const RUN: u8>(nodes: u32, cables: &[Cable]) -> Result<Cabled, Fault>
+    ensures { Laid RUN (Form.Cabled nodes) cables.now (reported plan_of result) }
 {
     let mut layout = Cabled::new();
-    match layout.cable(nodes as usize, sheet.cables()) {
+    match layout.cable(nodes as usize, cables) {
         Ok(()) => Ok(layout),
         Err(refusal) => Err(Fault {
             refusal,
             layer: Layer::Layout,
-            line: line_of(refusal),
+            line: line_of::<RUN>(refusal),
         }),
     }
 }
@@ -78,12 +72,12 @@ pub fn settings(run: Run) -> Settings
 }
 
 // The fault of settings that a network refuses.
-pub fn at_run_line(refusal: Refusal) -> Fault
-    ensures { told result ≡ (number refusal, Network, 3) }
+pub fn at_run_line<const RUN: u8>(refusal: Refusal) -> Fault
+    ensures { told result ≡ (number refusal, Network, RUN) }
 {
     Fault {
         refusal,
         layer: Layer::Network,
-        line: RUN_LINE,
+        line: u32::from(RUN),
     }
 }

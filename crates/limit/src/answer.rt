@@ -1,28 +1,20 @@
 // What a question is answered.
-ghost use Rattle.std.specs.Prelude.{◌≡◌, ◌<◌, ◌≤◌, [], length, IfOk, slice_index};
-ghost use Rattle.fabric.specs.Meshes.{mesh_plan};
-ghost use Rattle.fabric.specs.Refusals.{numbered};
-ghost use Rattle.cabled.specs.Plans.{plan_of};
-ghost use Rattle.text.specs.declared.parts.Shape.{Shape as Form};
-ghost use Rattle.limit.specs.Answers.{layout_line, Laid, settings_of, limited, OffWithin, Answered, meant};
-ghost use Rattle.limit.specs.Reports.{reported};
+ghost use Rattle.std.specs.Prelude.{◌≡◌, IfOk};
+ghost use Rattle.laying.specs.Layings.{settings_of};
+ghost use Rattle.laying.specs.Reports.{reported};
+ghost use Rattle.limit.specs.Answers.{limited, OffWithin, Answered, meant};
 
 use bounds::limits::Limits;
-use bounds::settings::Settings;
 use cabled::cabled::Cabled;
 use fabric::layout::Layout;
 use fabric::mesh::Mesh;
-use fabric::parts::Cable;
-use fabric::refusal::Refusal;
+use laying::{at_run_line, lay_cables, lay_mesh, settings};
 use sheet::question;
-use text::fault::{Fault, Layer};
+use text::fault::Fault;
 use text::parts::{Run, Shape};
 
-const LAYOUT_LINE: u32 = 1;
-
-const RUN_LINE: u32 = 2;
-
-const CABLES_LINE: u32 = 3;
+// The line of a question's run.
+const RUN_LINE: u8 = 2;
 
 // The layout that a question asks for, and the limits of its settings.
 #[derive(Clone, Copy)]
@@ -31,63 +23,14 @@ pub enum Answer {
     OnCables(Cabled, Limits),
 }
 
-// The line at which a layout is refused.
-fn line_of(refusal: Refusal) -> u32
-    requires { slice_index (numbered refusal).1 0 < 128 }
-    ensures { result ≡ layout_line (numbered refusal).0 (numbered refusal).1 }
-{
-    match refusal {
-        Refusal::Cable(i) => CABLES_LINE + 1 + i as u32,
-        Refusal::Unreached(_) => CABLES_LINE,
-        _ => LAYOUT_LINE,
-    }
-}
-
-fn lay_mesh(width: u32, height: u32) -> Result<Mesh, Fault>
-    ensures { Laid (Form.Mesh width height) [] (reported (λ m. mesh_plan m.width m.height) result) }
-{
-    match Mesh::new(width as usize, height as usize) {
-        Ok(mesh) => Ok(mesh),
-        Err(refusal) => Err(Fault {
-            refusal,
-            layer: Layer::Layout,
-            line: LAYOUT_LINE,
-        }),
-    }
-}
-
-fn lay_cables(nodes: u32, cables: &[Cable]) -> Result<Cabled, Fault>
-    requires { length cables.now ≤ 128 }
-    ensures { Laid (Form.Cabled nodes) cables.now (reported plan_of result) }
-{
-    let mut layout = Cabled::new();
-    match layout.cable(nodes as usize, cables) {
-        Ok(()) => Ok(layout),
-        Err(refusal) => Err(Fault {
-            refusal,
-            layer: Layer::Layout,
-            line: line_of(refusal),
-        }),
-    }
-}
-
 fn bound<L: Layout>(layout: &L, run: Run) -> Result<Limits, Fault>
     ensures exact { reported (λ l. l) result ≡ limited run (L.plan layout.now) }
     ensures kept { IfOk result (λ l. OffWithin (L.plan layout.now) (settings_of run) l.latest) }
 {
-    let settings = Settings {
-        tickets: run.tickets as usize,
-        words: run.words as usize,
-        epoch: run.epoch as usize,
-        seed: run.seed as usize,
-    };
-    match Limits::of(layout, settings) {
+    // A match: what `map_err` ensures is not proved in a function with the type parameter L.
+    match Limits::of(layout, settings(run)) {
         Ok(limits) => Ok(limits),
-        Err(refusal) => Err(Fault {
-            refusal,
-            layer: Layer::Network,
-            line: RUN_LINE,
-        }),
+        Err(refusal) => Err(at_run_line::<RUN_LINE>(refusal)),
     }
 }
 
@@ -102,7 +45,7 @@ pub fn reply(bytes: &[u8]) -> Result<Answer, Fault>
             Ok(Answer::OnMesh(mesh, limits))
         }
         Shape::Cabled { nodes } => {
-            let layout = lay_cables(nodes, question.cables())?;
+            let layout = lay_cables::<RUN_LINE>(nodes, question.cables())?;
             let limits = bound(&layout, question.run)?;
             Ok(Answer::OnCables(layout, limits))
         }

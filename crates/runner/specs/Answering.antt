@@ -35,9 +35,9 @@ made_of p t = record { plan = p; turn = t }
 abbrev pub network_of : Plan → Said → Fabric
 network_of p s = made_of p (turn_of s.kind)
 
--- the layout is judged before the settings: the plan, or a fault
+-- the layout is judged before the settings, and a sheet's run is its third line: the plan, or a fault
 abbrev pub Judged : Said → Report Plan → Type 0
-Judged s r = (v : Report Plan) × Laid s.shape s.cables v × (r ≡ then v (λ p. at_run_line (granting (λ _. p) (set_up_verdict p (settings_of s.run)))))
+Judged s r = (v : Report Plan) × Laid 3 s.shape s.cables v × (r ≡ then v (λ p. at_run_line 3 (granting (λ _. p) (set_up_verdict p (settings_of s.run)))))
 
 -- the listing of a sheet that is answered so
 abbrev pub ListsSheet : Said → Report Plan → List ℕ → Type 0
@@ -81,7 +81,7 @@ Ran F s w v (refused k vs) = (set_up_verdict F.plan (settings_of s.run) ≡ refu
 -- the same, with the fault of settings that are refused
 abbrev pub Ended : Fabric → Said → Writer → Writer → Result (Unit {0}) Fault → Type 0
 Ended F s w v r =
-    MatchResult r (λ _. Ran F s w v (granted tt)) (λ f. (at_run_line (granting (λ _. F.plan) (set_up_verdict F.plan (settings_of s.run))) ≡ faults (told f)) × (v ≡ w))
+    MatchResult r (λ _. Ran F s w v (granted tt)) (λ f. (at_run_line 3 (granting (λ _. F.plan) (set_up_verdict F.plan (settings_of s.run))) ≡ faults (told f)) × (v ≡ w))
 
 -- the bytes are no sheet's text, or that of a sheet whose layout or settings are refused
 abbrev pub Faulted : List ℕ → Fault → Type 0

@@ -27,14 +27,8 @@ const MEMORY: usize = 65536;
 
 const PACKETS: usize = 256;
 
-const NO_PACKET: Packet = Packet {
-    cycle: 0,
-    node: 0,
-    own: 0,
-    destination: 0,
-    count: 0,
-    words: [0; 4],
-};
+// The line of a sheet's run.
+const RUN_LINE: u8 = 3;
 
 // The sheet's run in a network of this layout and this switch.
 fn start<L: Layout + Drop, S: Switch + Drop>(
@@ -58,7 +52,7 @@ fn start<L: Layout + Drop, S: Switch + Drop>(
         aims: [None; TICKETS],
         tally: Tally::default(),
     };
-    let mut places = [NO_PACKET; PACKETS];
+    let mut places = [Packet::default(); PACKETS];
     let mut planned = Planned::new(sheet.packets(), &mut places)?;
     session.play(sheet.run.cycles, &mut planned, writer)
 }
@@ -73,7 +67,7 @@ fn run<L: Layout + Drop, S: Switch + Drop>(
     ensures ended { Ended (made_of (L.plan layout) (S.turn switch)) (said sheet.now) writer.old writer.new result }
     ensures lender { SameLender writer.old writer.new }
 {
-    start(layout, switch, sheet, writer).map_err(at_run_line)
+    start(layout, switch, sheet, writer).map_err(at_run_line::<RUN_LINE>)
 }
 
 // The sheet's run on this layout, with the sheet's kind of switch.
@@ -100,7 +94,7 @@ fn carry_out(bytes: &[u8], writer: &mut Writer) -> Result<(), Fault>
             run_on(mesh, &sheet, writer)
         }
         Shape::Cabled { nodes } => {
-            let layout = lay_cables(nodes, &sheet)?;
+            let layout = lay_cables::<RUN_LINE>(nodes, sheet.cables())?;
             run_on(layout, &sheet, writer)
         }
     }

@@ -1,7 +1,9 @@
 -- Parting a text by a byte, and joining the parts by it.
-use Rattle.std.proofs.Common.{◌≡◌, ℕ, ◌+◌, ◌<◌, ◌≤◌, eqb, List, [], ◌∷◌, ◌++◌, length, get_or, take, drop, sym, refl, ap, ◌∙◌, subst, ⊎_elim, arith}
+use Rattle.std.proofs.Common.{◌≡◌, ℕ, ◌+◌, ◌<◌, ◌≤◌, eqb, List, [], ◌∷◌, ◌++◌, length, get_or, take, drop, sym, refl, ap, ◌∙◌, subst, ⊎_elim, Option, None, Some, Bor, arith}
 use Rattle.std.specs.List.{flat_map, AllByRecursion}
-use Rattle.std.proofs.lemmas.List.{append-nil, take-append-drop, drop_more, take_all}
+use Rattle.std.specs.Option.{option_map_or}
+use Rattle.std.specs.Slice.{IsGetRangeResult}
+use Rattle.std.proofs.lemmas.List.{append-nil, take-append-drop, drop_more, take_all, take_rest}
 use Rattle.std.proofs.lemmas.Bool.{cond-true, cond-false, eq-eqb, ne_eqb, cases_Bool, eqb-true}
 use Rattle.text.specs.Texts.{parted, onto, spaced, Free}
 
@@ -57,3 +59,14 @@ parted_not_none b s e =
     let k = parted_some b s in
     let f : k.0 ∷ k.1 ≡ [] = sym k.2 ∙ e in
     let z : ◌≡◌ {A = ℕ} 0 1 = cc in omega arith
+
+-- the parts of what is left of a line
+abbrev pub left : Option (Bor (List ℕ)) → List (List ℕ)
+left r = option_map_or (λ x. parted 32 x.now) r []
+
+-- what follows the first space, at index e, if there is one
+pub parted_get : (s : List ℕ) (e : ℕ) (r : Option (Bor (List ℕ))) → Free 32 (take e s) → (e < length s → get_or s e 0 ≡ 32) → IsGetRangeResult s (e + 1) (length s) r → parted 32 s ≡ take e s ∷ left r
+parted_get s e None f g h = parted_none 32 s e (omega (arith, h.0)) f
+parted_get s e (Some x) f g h =
+    let l : e < length s = omega (arith, h.0) in
+    parted_found 32 s e l f (g l) ∙ ap (λ r. take e s ∷ parted 32 r) (sym (take_rest s (e + 1)) ∙ sym h.0.2)

@@ -1,6 +1,7 @@
 -- The fields that are left of a line, and what reading them as a line of some kind answers.
-use Rattle.std.specs.Prelude.{◌≡◌, ℕ, cond, List, [], ◌++◌, map, Result, MatchResult, ◌≢◌}
+use Rattle.std.specs.Prelude.{◌≡◌, ℕ, List, [], ◌++◌, map, Result, MatchResult, ◌≢◌}
 use Rattle.std.specs.List.{AllByRecursion}
+use Rattle.std.specs.Option.{option_map_or}
 use Rattle.text.specs.Texts.{Field, Fits, shown, parted}
 use Rattle.text.specs.Faults.{told, ill_formed}
 use Rattle.text.specs.declared.fault.Fault.{Fault}
@@ -8,7 +9,7 @@ use Rattle.text.specs.declared.field.Fields.{Fields}
 
 -- the fields that are left, as they stand
 abbrev pub words : Fields → List (List ℕ)
-words f = cond f.more (parted 32 f.rest.now) []
+words f = option_map_or (λ r. parted 32 r.now) f.rest []
 
 -- no value that P holds of has the words
 abbrev pub Unlike : {A : Type 0} → (A → List Field) → (A → Type 0) → List (List ℕ) → Type 0

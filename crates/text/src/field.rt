@@ -16,12 +16,7 @@ pub fn find(text: &[u8], b: u8) -> usize
     ensures before { Free b (take result text.now) }
     ensures found { result < length text.now → slice_index text.now result ≡ b }
 {
-    for (i, x) in text.iter().enumerate() {
-        if *x == b {
-            return i;
-        }
-    }
-    text.len()
+    text.iter().position(|x| *x == b).unwrap_or(text.len())
 }
 
 // For guards: a match on fixed bytes is checked byte by byte.
@@ -31,11 +26,10 @@ pub fn is(word: &[u8], fixed: &[u8]) -> bool
     word == fixed
 }
 
-// What is left of line `line` to read: `rest`, unless its last field is read.
+// What is left of line `line` to read: nothing once its last field is read.
 #[derive(Drop)]
 pub struct Fields<'a> {
-    rest: &'a [u8],
-    more: bool,
+    rest: Option<&'a [u8]>,
     line: u32,
 }
 
@@ -45,8 +39,7 @@ impl<'a> Fields<'a> {
         ensures line { result.line ≡ line }
     {
         Fields {
-            rest: text,
-            more: true,
+            rest: Some(text),
             line,
         }
     }
@@ -56,17 +49,10 @@ impl<'a> Fields<'a> {
         ensures words { MatchResult result (λ w. words self.old ≡ w.now ∷ words self.new) (λ f. (told f ≡ ill_formed self.old.line) × (words self.old ≡ [])) }
         ensures line { self.new.line ≡ self.old.line }
     {
-        if !self.more {
-            return Err(Fault::ill_formed(self.line));
-        }
-        let rest = self.rest;
+        let rest = self.rest.ok_or(self.fault())?;
         let end = find(rest, b' ');
-        if end < rest.len() {
-            self.rest = &rest[end + 1..];
-        } else {
-            self.more = false;
-        }
-        Ok(&rest[0..end])
+        self.rest = rest.get(end + 1..);
+        Ok(&rest[..end])
     }
 
     // The next field, a number.
@@ -110,9 +96,9 @@ impl<'a> Fields<'a> {
     pub fn end(&self) -> Result<(), Fault>
         ensures { MatchResult result (λ _. words self.now ≡ []) (λ f. (told f ≡ ill_formed self.now.line) × (words self.now ≢ [])) }
     {
-        if self.more {
-            return Err(self.fault());
+        match self.rest {
+            None => Ok(()),
+            Some(_) => Err(self.fault()),
         }
-        Ok(())
     }
 }

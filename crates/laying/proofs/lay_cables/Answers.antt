@@ -1,5 +1,4 @@
-use Rattle.std.proofs.Common.{ℕ, length, refl, ap, arith}
-use Rattle.batch.proofs.Rooms.{few_items}
+use Rattle.std.proofs.Common.{ℕ, refl, ap}
 use Rattle.fabric.specs.Refusals.{number}
 use Rattle.text.specs.declared.fault.Layer.TheVariants.{Layout}
 use Rattle.laying.specs.Reports.Report.{faults}
@@ -7,16 +6,15 @@ use Rattle.laying.proofs.Laying.{as_plans, named_below}
 use Rattle.laying.proofs.lay_cables.Goals as goal
 
 pub line_of-requires : goal.line_of-requires
-line_of-requires c =
-    named_below (omega (arith, ap length c.cables.ensures, few_items c.args.sheet.now.cables)) c.in-Err.ensures
+line_of-requires o c = named_below c.in-Err.ensures
 
 pub returns-in-Ok : goal.returns-in-Ok
-returns-in-Ok c = (_, _, as_plans _ c.new-layout.ensures.plan c.cables.ensures c.in-Ok.ensures, refl)
+returns-in-Ok o c = (_, _, as_plans _ c.new-layout.ensures.plan c.in-Ok.ensures, refl)
 
 pub returns-in-Err : goal.returns-in-Err
-returns-in-Err c = (
+returns-in-Err o c = (
   _,
   _,
-  as_plans _ c.new-layout.ensures.plan c.cables.ensures c.in-Err.ensures,
+  as_plans _ c.new-layout.ensures.plan c.in-Err.ensures,
   ap (λ (k : ℕ). faults (number c.in-Err.refusal, Layout, k)) c.line_of.ensures,
 )

@@ -1,7 +1,8 @@
 use Rattle.std.proofs.Common.{refl, inr}
 use Rattle.std.proofs.lemmas.Result.{err_from_is_err_and}
 use Rattle.limit.specs.Answers.{Answered}
-use Rattle.limit.proofs.Answering.{as_read, reported_err, no_layout, no_limits, all}
+use Rattle.laying.proofs.Laying.{as_read, reported_err}
+use Rattle.limit.proofs.Answering.{no_layout, no_limits, all}
 use Rattle.limit.proofs.answer.reply.Goals as goal
 
 pub returns-in_err-question : goal.returns-in_err-question
@@ -11,27 +12,27 @@ returns-in_err-question c =
 pub returns-in_err-mesh-in-Mesh : goal.returns-in_err-mesh-in-Mesh
 returns-in_err-mesh-in-Mesh c =
     reported_err _ (Answered c.args.bytes.now) _ _ (err_from_is_err_and _ c.from_residual-in_err-mesh-in-Mesh.ensures.1)
-    (no_layout _ _ c.in_ok-question.ensures _ (as_read _ _ _ c.in-Mesh.is refl c.in_err-mesh-in-Mesh.ensures))
+    (no_layout _ _ c.in_ok-question.ensures _ (as_read 2 _ _ _ c.in-Mesh.is refl (c.in_err-mesh-in-Mesh.ensures 2)))
 
 pub returns-in_err-limits-in-Mesh : goal.returns-in_err-limits-in-Mesh
 returns-in_err-limits-in-Mesh c =
     reported_err _ (Answered c.args.bytes.now) _ _ (err_from_is_err_and _ c.from_residual-in_err-limits-in-Mesh.ensures.1)
-    (no_limits _ _ c.in_ok-question.ensures _ (as_read _ _ _ c.in-Mesh.is refl c.in_ok-mesh-in-Mesh.ensures) _ c.in_err-limits-in-Mesh.ensures.exact)
+    (no_limits _ _ c.in_ok-question.ensures _ (as_read 2 _ _ _ c.in-Mesh.is refl (c.in_ok-mesh-in-Mesh.ensures 2)) _ c.in_err-limits-in-Mesh.ensures.exact)
 
 pub returns-in_err-layout-in-Cabled : goal.returns-in_err-layout-in-Cabled
 returns-in_err-layout-in-Cabled c =
     reported_err _ (Answered c.args.bytes.now) _ _ (err_from_is_err_and _ c.from_residual-in_err-layout-in-Cabled.ensures.1)
-    (no_layout _ _ c.in_ok-question.ensures _ (as_read _ _ _ c.in-Cabled.is c.cables.ensures c.in_err-layout-in-Cabled.ensures))
+    (no_layout _ _ c.in_ok-question.ensures _ (as_read 2 _ _ _ c.in-Cabled.is c.cables.ensures c.in_err-layout-in-Cabled.ensures))
 
 pub returns-in_err-limits-in-Cabled : goal.returns-in_err-limits-in-Cabled
 returns-in_err-limits-in-Cabled c =
     reported_err _ (Answered c.args.bytes.now) _ _ (err_from_is_err_and _ c.from_residual-in_err-limits-in-Cabled.ensures.1)
-    (no_limits _ _ c.in_ok-question.ensures _ (as_read _ _ _ c.in-Cabled.is c.cables.ensures c.in_ok-layout-in-Cabled.ensures) _ c.in_err-limits-in-Cabled.ensures.exact)
+    (no_limits _ _ c.in_ok-question.ensures _ (as_read 2 _ _ _ c.in-Cabled.is c.cables.ensures c.in_ok-layout-in-Cabled.ensures) _ c.in_err-limits-in-Cabled.ensures.exact)
 
 pub returns-in_ok-limits-in-Mesh : goal.returns-in_ok-limits-in-Mesh
 returns-in_ok-limits-in-Mesh c =
-    all _ _ c.in_ok-question.ensures _ (as_read _ _ _ c.in-Mesh.is refl c.in_ok-mesh-in-Mesh.ensures) _ c.in_ok-limits-in-Mesh.ensures.exact c.in_ok-limits-in-Mesh.ensures.kept
+    all _ _ c.in_ok-question.ensures _ (as_read 2 _ _ _ c.in-Mesh.is refl (c.in_ok-mesh-in-Mesh.ensures 2)) _ c.in_ok-limits-in-Mesh.ensures.exact c.in_ok-limits-in-Mesh.ensures.kept
 
 pub returns-in_ok-limits-in-Cabled : goal.returns-in_ok-limits-in-Cabled
 returns-in_ok-limits-in-Cabled c =
-    all _ _ c.in_ok-question.ensures _ (as_read _ _ _ c.in-Cabled.is c.cables.ensures c.in_ok-layout-in-Cabled.ensures) _ c.in_ok-limits-in-Cabled.ensures.exact c.in_ok-limits-in-Cabled.ensures.kept
+    all _ _ c.in_ok-question.ensures _ (as_read 2 _ _ _ c.in-Cabled.is c.cables.ensures c.in_ok-layout-in-Cabled.ensures) _ c.in_ok-limits-in-Cabled.ensures.exact c.in_ok-limits-in-Cabled.ensures.kept

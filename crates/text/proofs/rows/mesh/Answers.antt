@@ -8,14 +8,6 @@ use Rattle.text.proofs.Words.{mesh_apart}
 use Rattle.text.proofs.Exits.{passed, rest_of, after}
 use Rattle.text.proofs.rows.mesh.Goals as goal
 
-pub returns-in_err-width : goal.returns-in_err-width
-returns-in_err-width c =
-    passed shape_line Any _ _ _ _ (err_from_is_err_and _ c.from_residual.ensures.1) c.in_err-width.ensures.words.0
-    (elim [
-      | Mesh w h ↦ λ fits p e. c.in_err-width.ensures.words.1 w (decimal h ∷ []) fits.1.0 (rest_of e)
-      | Cabled n ↦ λ fits p e. mesh_apart _ _ e
-    ])
-
 pub returns-in_err-height : goal.returns-in_err-height
 returns-in_err-height c =
     passed shape_line Any _ _ _ _ (err_from_is_err_and _ c.from_residual-in_err-height.ensures.1) (c.in_err-height.ensures.words.0 ∙ ap ill_formed c.in_ok-width.ensures.line)

@@ -6,11 +6,6 @@ use Rattle.text.specs.Lines.{run_line, Brief}
 use Rattle.text.proofs.Exits.{passed, rest_of, after, first_of}
 use Rattle.text.proofs.rows.run.Goals as goal
 
-pub returns-in_err-tickets : goal.returns-in_err-tickets
-returns-in_err-tickets c =
-    passed run_line Brief _ _ _ _ (err_from_is_err_and _ c.from_residual.ensures.1) c.in_err-tickets.ensures.words.0
-    (λ x fits p e. c.in_err-tickets.ensures.words.1 x.tickets (decimal x.words ∷ decimal x.epoch ∷ decimal x.seed ∷ decimal x.cycles ∷ []) fits.1.0 (rest_of e))
-
 pub returns-in_err-words : goal.returns-in_err-words
 returns-in_err-words c =
     passed run_line Brief _ _ _ _ (err_from_is_err_and _ c.from_residual-in_err-words.ensures.1) (c.in_err-words.ensures.words.0 ∙ ap ill_formed c.in_ok-tickets.ensures.line)

@@ -1,10 +1,6 @@
-use Rattle.std.proofs.Common.{sym, ◌∙◌}
-use Rattle.std.proofs.lemmas.Bool.{cond-true}
-use Rattle.text.proofs.Parting.{parted_not_none}
+use Rattle.std.proofs.Common.{sym, ap, ◌∙◌}
+use Rattle.text.proofs.Parting.{parted_not_none, left}
 use Rattle.text.proofs.field.Fields.end.Goals as goal
 
-pub returns-then-self : goal.returns-then-self
-returns-then-self c = (
-  c.fault.ensures,
-  λ e. parted_not_none 32 c.args.self.now.rest.now (sym (cond-true c.args.self.now.more _ _ c.if-self.true) ∙ e),
-)
+pub returns-in-Some : goal.returns-in-Some
+returns-in-Some c = (c.fault.ensures, λ e. parted_not_none 32 c.in-Some.field-0.now (sym (ap left c.in-Some.is) ∙ e))
