@@ -12,8 +12,6 @@ use fabric::refusal::Refusal;
 // A shortest way visits no node twice, so it has at most this many steps.
 const MOST_STEPS: u8 = 63;
 
-const EACH_PORT: [Port; 4] = [Port::N, Port::E, Port::S, Port::W];
-
 // For each node, the fewest steps to one node, where a way is found.
 type Levels = [Option<u8>; NODES];
 
@@ -45,7 +43,7 @@ impl Wiring {
         requires { node < self.now.nodes }
         ensures { result ≡ any (λ p. at level (slice_index_or row.now (next_at self.now.ends node p) None)) }
     {
-        EACH_PORT
+        Port::ALL
             .iter()
             .any(|&port| self.leads_to(row, node, port, level))
     }

@@ -7,8 +7,6 @@ use switch::bless::Bless;
 use switch::chipper::Chipper;
 use switch::switch::Switch;
 
-const SIDES: [Port; 4] = [Port::N, Port::E, Port::S, Port::W];
-
 const DRAWS: [bool; 4] = [true; 4];
 
 fn main(rt: HostRuntime) -> io::Result<()> {
@@ -42,11 +40,11 @@ fn show(
     wishes: [Option<Port>; 4],
     out: [Option<Flit>; 4],
 ) -> io::Result<()> {
-    for slot in SIDES {
+    for slot in Port::ALL {
         let (Some(flit), Some(wish)) = (places[slot.index()], wishes[slot.index()]) else {
             continue;
         };
-        for port in SIDES {
+        for port in Port::ALL {
             if out[port.index()] == Some(flit) {
                 let ticket = flit.ticket;
                 println!(rt; "{contest}: {slot} ticket {ticket} wish {wish} leaves {port}")?;

@@ -9,7 +9,8 @@ use Rattle.text.specs.Texts.{Field, written, text}
 use Rattle.writer.specs.declared.writer.Writer.{Writer}
 use Rattle.writer.specs.Listings.{listed, beyond, Appends}
 use Rattle.writer.proofs.Lengths.{length_event}
-use Rattle.runner.specs.Listing.{kind_word, line_of, enters, leaves, ins, outs}
+use Rattle.network.specs.Kinds.{kind_word}
+use Rattle.runner.specs.Listing.{line_of, enters, leaves, ins, outs}
 use Rattle.runner.specs.Tallies.{Small}
 
 -- the line of an event has few bytes

@@ -13,7 +13,8 @@ use Rattle.writer.specs.declared.writer.Writer.{Writer}
 use Rattle.writer.specs.Listings.{listed, beyond, Appends, LineOut, event_line}
 use Rattle.writer.proofs.Outcomes.{with_room}
 use Rattle.runner.specs.declared.tally.Tally.{Tally}
-use Rattle.runner.specs.Listing.{kind_word, line_of, enters, leaves}
+use Rattle.network.specs.Kinds.{kind_word}
+use Rattle.runner.specs.Listing.{line_of, enters, leaves}
 use Rattle.runner.specs.Tallies.{Counts, Tellable, Told}
 use Rattle.runner.proofs.Events.{ins_append, outs_append, under_way_append}
 use Rattle.runner.proofs.Pages.{text_append, text_one}

@@ -6,6 +6,7 @@ use Rattle.line.specs.Queues.{Queue}
 use Rattle.bounds.specs.declared.settings.Settings.{Settings}
 use Rattle.bounds.specs.SetUp.{all_tickets}
 use Rattle.network.specs.declared.event.Event.{Event}
+use Rattle.network.specs.Kinds.{kind_word}
 use Rattle.network.specs.declared.event.Kind.{Kind}
 use Rattle.network.specs.declared.event.Kind.TheVariants.{In, Out}
 use Rattle.network.specs.Log.{complete, aim, packet}
@@ -20,10 +21,6 @@ use Rattle.text.specs.Texts.{Field, text}
 use Rattle.writer.specs.Listings.{event_line, no_line, done_line, end_line}
 
 -- Events.
-
-abbrev pub kind_word : Kind → List ℕ
-kind_word In = codes "in"
-kind_word Out = codes "out"
 
 abbrev pub line_of : Event → List Field
 line_of e = event_line e.cycle (kind_word e.kind) e.ticket e.number e.node

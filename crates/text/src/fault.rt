@@ -1,5 +1,5 @@
 // A fault of a text: why it is refused, by which layer, and at which line, counted from 1 (0 where no line is named).
-ghost use Rattle.std.specs.Prelude.{◌≡◌, ◌≤◌, length, Some};
+ghost use Rattle.std.specs.Prelude.{◌≡◌, Some};
 ghost use Rattle.text.specs.Faults.{told, too_long, ill_formed, too_many, layer_word, fault_line};
 
 use fabric::refusal::Refusal;
@@ -13,24 +13,15 @@ pub enum Layer {
     Network,
 }
 
-impl Layer {
-    pub fn word(self) -> &'static str
-        ensures exact { result.now ≡ layer_word self }
-        ensures few { length result.now ≤ 7 }
-    {
-        match self {
-            Layer::Sheet => "sheet",
-            Layer::Layout => "layout",
-            Layer::Network => "network",
-        }
-    }
-}
-
 impl fmt::Display for Layer {
     ghost output = { λ l. Some (layer_word l) };
 
     fn fmt<W: fmt::Write>(&self, f: &mut fmt::Formatter<W>) -> fmt::Result {
-        f.write_str(self.word())
+        match *self {
+            Layer::Sheet => f.write_str("sheet"),
+            Layer::Layout => f.write_str("layout"),
+            Layer::Network => f.write_str("network"),
+        }
     }
 }
 

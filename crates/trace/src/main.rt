@@ -8,7 +8,7 @@ use calls::Network;
 use fabric::mesh::Mesh;
 use fabric::refusal::Refusal;
 use line::Line;
-use network::event::{Event, Kind};
+use network::event::Event;
 use switch::chipper::Chipper;
 
 const NODES: usize = 6;
@@ -19,15 +19,6 @@ const CYCLES: u32 = 16;
 
 // Two events a node and cycle at most.
 const PLACES: usize = 12;
-
-const NO_EVENT: Event = Event {
-    cycle: 0,
-    kind: Kind::In,
-    ticket: 0,
-    number: 0,
-    node: 0,
-    entered: 0,
-};
 
 fn main(rt: HostRuntime) -> anyhow::Result<()> {
     let mut network = Network::new(lawful(Mesh::new(3, 2))?, Chipper);
@@ -41,7 +32,7 @@ fn main(rt: HostRuntime) -> anyhow::Result<()> {
     for node in 0..NODES {
         lawful(network.offer(node, 0, destination(node), &[node as u32, 7]))?;
     }
-    let mut memory = [NO_EVENT; PLACES];
+    let mut memory = [Event::default(); PLACES];
     let mut line = Line::new(&mut memory);
     for cycle in 0..CYCLES {
         lawful(network.cycle(&mut line))?;
@@ -66,15 +57,12 @@ fn tell(rt: &HostRuntime, line: &mut Line<Event>) -> anyhow::Result<()> {
     while let Some(event) = line.take() {
         let Event {
             cycle,
+            kind,
             ticket,
             number,
             node,
             ..
         } = event;
-        let kind = match event.kind {
-            Kind::In => "in",
-            Kind::Out => "out",
-        };
         println!(rt; "{cycle} {kind} {ticket} {number} {node}")?;
     }
     Ok(())

@@ -6,7 +6,7 @@ use calls::Network;
 use fabric::mesh::Mesh;
 use fabric::refusal::Refusal;
 use line::Line;
-use network::event::{Event, Kind};
+use network::event::Event;
 use switch::chipper::Chipper;
 
 const SMALL: Settings = Settings {
@@ -14,15 +14,6 @@ const SMALL: Settings = Settings {
     words: 2,
     epoch: 4,
     seed: 1,
-};
-
-const NO_EVENT: Event = Event {
-    cycle: 0,
-    kind: Kind::In,
-    ticket: 0,
-    number: 0,
-    node: 0,
-    entered: 0,
 };
 
 const FROM: usize = 0;
@@ -37,7 +28,7 @@ pub fn two_words() -> Result<[u32; 2], Refusal>
     let mut network = Network::new(mesh, Chipper);
     network.set_up(SMALL)?;
     let sent = [7, 9];
-    let mut events = [NO_EVENT; 8];
+    let mut events = [Event::default(); 8];
     let mut line = Line::new(&mut events);
     let mut received = [0; 2];
     // the collection is granted only if all of these are

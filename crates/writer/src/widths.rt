@@ -1,8 +1,11 @@
 // How many bytes the fields of a line take.
 ghost use Rattle.std.specs.Prelude.{◌≡◌, ◌≤◌, ◌∷◌, map, length, decimal};
+ghost use Rattle.text.specs.Faults.{layer_word};
 ghost use Rattle.text.specs.Texts.{shown};
 ghost use Rattle.writer.specs.Listings.{stamped_line, mean_word};
 ghost use Rattle.writer.specs.Steps.{figures, spread, Leaves};
+
+use text::fault::Layer;
 
 pub(crate) fn digits(n: u32) -> usize
     ensures exact { result ≡ length (decimal n) }
@@ -17,6 +20,18 @@ pub(crate) fn mean_width(mean: Option<u32>) -> usize
     ensures few { result ≤ 12 }
 {
     mean.map_or(1, |tenths| digits(tenths / 10) + 2)
+}
+
+// Beside Layer's Display: the words of a listing are fixed byte strings.
+pub(crate) fn layer_word(layer: Layer) -> &'static [u8]
+    ensures exact { result.now ≡ layer_word layer }
+    ensures few { length result.now ≤ 7 }
+{
+    match layer {
+        Layer::Sheet => b"sheet",
+        Layer::Layout => b"layout",
+        Layer::Network => b"network",
+    }
 }
 
 // What is left of the room after the numbers, each with a space before it.

@@ -8,21 +8,12 @@ use super::Session;
 use fabric::layout::Layout;
 use fabric::refusal::Refusal;
 use line::Line;
-use network::event::{Event, Kind};
+use network::event::Event;
 use switch::switch::Switch;
 use writer::Writer;
 
 // Two for each node.
 const EVENTS: usize = 128;
-
-const NO_EVENT: Event = Event {
-    cycle: 0,
-    kind: Kind::In,
-    ticket: 0,
-    number: 0,
-    node: 0,
-    entered: 0,
-};
 
 impl<L: Layout, S: Switch> Session<L, S> {
     // Each event has its line.
@@ -32,7 +23,7 @@ impl<L: Layout, S: Switch> Session<L, S> {
         ensures parts { SameParts self.old.network self.new.network }
         ensures lender { SameLender writer.old writer.new }
     {
-        let mut events = [NO_EVENT; EVENTS];
+        let mut events = [Event::default(); EVENTS];
         let mut line = Line::new(&mut events);
         self.network.cycle(&mut line)?;
         self.tally.tell(&mut line, writer)

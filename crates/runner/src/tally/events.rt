@@ -2,7 +2,8 @@
 ghost use Rattle.std.specs.Prelude.{◌≡◌, ◌+◌, ◌-◌, ◌*◌, ◌≤◌, [], ◌∷◌, Ok};
 ghost use Rattle.line.specs.Lines.{holds};
 ghost use Rattle.writer.specs.Listings.{SameLender};
-ghost use Rattle.runner.specs.Listing.{kind_word, enters, leaves, mean_of};
+ghost use Rattle.network.specs.Kinds.{kind_word};
+ghost use Rattle.runner.specs.Listing.{enters, leaves, mean_of};
 ghost use Rattle.runner.specs.Tallies.{Counts, Tellable, Told};
 
 use super::Tally;
@@ -11,6 +12,7 @@ use line::Line;
 use network::event::{Event, Kind};
 use writer::Writer;
 
+// Beside Kind's Display: the words of a listing are fixed byte strings.
 fn word(kind: Kind) -> &'static [u8]
     ensures { result.now ≡ kind_word kind }
 {

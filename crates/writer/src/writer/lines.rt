@@ -7,7 +7,7 @@ ghost use Rattle.writer.specs.Listings.{listed, beyond, SameLender, LineOut, sta
 ghost use Rattle.writer.specs.Steps.{Puts};
 
 use super::Writer;
-use crate::widths::{after_stamped, digits, mean_width};
+use crate::widths::{after_stamped, digits, layer_word, mean_width};
 use fabric::refusal::Refusal;
 use text::fault::Fault;
 
@@ -108,7 +108,7 @@ impl<'a> Writer<'a> {
         ensures lender { SameLender self.old self.new }
         ensures few { length (written (fault_fields (told fault))) ≤ 36 }
     {
-        let layer = fault.layer.word().as_bytes();
+        let layer = layer_word(fault.layer);
         let number = u32::from(fault.refusal.number());
         // the bytes of `fault`, three spaces and the line's end
         if self.room() < 9 + layer.len() + digits(number) + digits(fault.line) {
