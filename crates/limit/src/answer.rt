@@ -27,11 +27,7 @@ fn bound<L: Layout>(layout: &L, run: Run) -> Result<Limits, Fault>
     ensures exact { reported (λ l. l) result ≡ limited run (L.plan layout.now) }
     ensures kept { IfOk result (λ l. OffWithin (L.plan layout.now) (settings_of run) l.latest) }
 {
-    // A match: what `map_err` ensures is not proved in a function with the type parameter L.
-    match Limits::of(layout, settings(run)) {
-        Ok(limits) => Ok(limits),
-        Err(refusal) => Err(at_run_line::<RUN_LINE>(refusal)),
-    }
+    Limits::of(layout, settings(run)).map_err(at_run_line::<RUN_LINE>)
 }
 
 pub fn reply(bytes: &[u8]) -> Result<Answer, Fault>
