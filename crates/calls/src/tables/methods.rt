@@ -30,13 +30,14 @@ impl Tables {
         }
     }
 
-    // Takes over a packet under a free ticket of a node, where it then waits: fewer than all of the node's tickets wait then.
+    // Takes over a packet under a free ticket of a node, where it then waits.
     pub(crate) fn accept(&mut self, node: usize, ticket: usize, destination: usize, words: &[u32])
         requires { (node < 64) × ((ticket < 512) × ((destination < 64) × (length words.now ≤ 4))) }
         ensures { Accepts self.old self.new node ticket destination words.now }
     {
         self.tickets[ticket] = Some(Ticket::new(destination as u8, words));
         let mut line = self.waits[node];
+        // a node with a free ticket has a place in its line
         let _ = line.push(ticket as u16);
         self.waits[node] = line;
     }

@@ -29,7 +29,7 @@ pub loop-node-init : goal.loop-node-init
 loop-node-init g c =
     let s = c.args.self.now in
     let F : Fabric = record { plan = g.L.Layout.plan s.layout; turn = g.S.Switch.turn s.switch } in
-    (round_none F s.inner c.golden-golden.result _ (queue_of c.args.line.now), refl, refl, refl)
+    (round_none F s.inner c.golden-golden.result _ (queue_of c.args.line.now), (refl, refl), refl)
 
 pub loop-node-preserved : goal.loop-node-preserved
 loop-node-preserved g c =
@@ -42,10 +42,9 @@ loop-node-preserved g c =
           (subst₂ (λ (x : g.row.L.Denot) (y : g.row.S.Denot).
           NodeWorks (record { plan = g.L.Layout.plan x; turn = g.S.Switch.turn y }) c.loop-node.self.inner w.new.self.inner c.loop-node.node c.golden-golden.result
           c.loop-node.arriving w.new.arriving (queue_of c.loop-node.line) (queue_of w.new.line) w.result)
-          i.1 i.2 w.ensures.works),
-      w.ensures.parts.0 ∙ i.1,
-      w.ensures.parts.1 ∙ i.2,
-      w.ensures.lender ∙ i.3,
+          i.1.0 i.1.1 w.ensures.works),
+      (w.ensures.parts.0 ∙ i.1.0, w.ensures.parts.1 ∙ i.1.1),
+      w.ensures.lender ∙ i.2,
     )
 
 pub returns : goal.returns
@@ -59,4 +58,4 @@ returns g c =
     (cycles_on F s.inner law q c.if-self-ge-MOST_CYCLES.false (omega arith) c.args.line.now.sound.0 c.loop-node.self.inner c.advance.new.self c.golden-golden.result
     c.loop-node.arriving (queue_of c.loop-node.line) c.loop-node.off c.loop-node.node
     (c.golden-golden.ensures ∙ ap (λ (x : ℕ). golden_ticket (x * s.inner.settings.tickets) s.inner.settings.epoch s.inner.cycles) c.nodes-nodes.ensures) (omega arith) i.0 c.advance.ensures) not_refused in
-    record { promised = b; parts = (i.1, i.2); lender = i.3 }
+    record { promised = b; parts = i.1; lender = i.2 }
