@@ -93,7 +93,7 @@ impl<L: Layout, S: Switch> Network<L, S> {
         if destination >= nodes || destination == node {
             return Err(Refusal::Destination);
         }
-        if words.len() == 0 || words.len() > self.inner.settings.words {
+        if words.is_empty() || words.len() > self.inner.settings.words {
             return Err(Refusal::Words);
         }
         let ticket = node * self.inner.settings.tickets + own;

@@ -13,6 +13,7 @@ use bounds::settings::Settings;
 use clock::draw::shift;
 use clock::epoch::golden;
 use fabric::parts::Flit;
+use std::array;
 
 impl Tables {
     // The tables of a network just set up.
@@ -96,7 +97,7 @@ impl Tables {
     {
         let r = shift(self.register);
         self.register = r;
-        [r % 2 == 1, r / 2 % 2 == 1, r / 4 % 2 == 1, r / 8 % 2 == 1]
+        array::from_fn(|k| r >> k & 1 == 1)
     }
 
     // The four places of a node.
@@ -104,12 +105,7 @@ impl Tables {
         requires { node < 64 }
         ensures { result ≡ in_slot_order (slot_of self.now.slots node) }
     {
-        [
-            self.slots[4 * node],
-            self.slots[4 * node + 1],
-            self.slots[4 * node + 2],
-            self.slots[4 * node + 3],
-        ]
+        array::from_fn(|k| self.slots[4 * node + k])
     }
 
     // The golden ticket of this cycle.
