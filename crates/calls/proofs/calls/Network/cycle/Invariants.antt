@@ -1,4 +1,3 @@
-use Rattle.std.proofs.Common.{◌≡◌}
 use Rattle.line.specs.Lines.{queue_of, SameLender}
 use Rattle.calls.specs.Midway.{Round}
 use Rattle.calls.specs.Networks.{SameParts}
