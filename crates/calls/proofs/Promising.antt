@@ -33,7 +33,7 @@ pub record Works (F : Fabric) (i j : Tables) (k : Call) (o : Outcome) : Type 0 w
 pub not_refused : {A : Type 0} → false ≡ true → A
 not_refused e = absurd (both_ways false refl e)
 
-module _ (F : Fabric) (law : Lawful F.plan) (sw : LawfulSwitch F.turn) where
+module _ {F : Fabric} (law : Lawful F.plan) (sw : LawfulSwitch F.turn) where
   -- what is computed is the outcome
   computed : (P : Settings) (s : State) (k : Call) → Serves F P s k (outcome F P s k) (next F P s k)
   computed P s k =
@@ -41,8 +41,8 @@ module _ (F : Fabric) (law : Lawful F.plan) (sw : LawfulSwitch F.turn) where
       let e = served_one F P law s a.served in
       subst₂ (λ (o : Outcome) (r : State). Serves F P s k o r) e.0 e.1 a.served
 
-  pub promised : (i j : Tables) (k : Call) (o : Outcome) → Works F i j k o → (Refused o → j ≡ i) → Promised F i j k o
-  promised i j k o w u = record { continues = go; unchanged = u }
+  pub promised : {i j : Tables} {k : Call} {o : Outcome} → Works F i j k o → (Refused o → j ≡ i) → Promised F i j k o
+  promised {i} {j} {k} {o} w u = record { continues = go; unchanged = u }
     where
       go : (run : List Call) (s : State) → Follows F i run s → Continues F i j run s k o
       go run s f =
@@ -62,8 +62,8 @@ module _ (F : Fabric) (law : Lawful F.plan) (sw : LawfulSwitch F.turn) where
             kept = subst (λ (Q : Settings). Kept F Q (k ∷ run) (next F P s k)) (sym d.same) ((kept F P law sw f.lawful (k ∷ run)).kept (next F P s k) led);
           }
 
-  pub refusing : (i : Tables) (k : Call) (o : Outcome) → Works F i i k o → Promised F i i k o
-  refusing i k o w = promised i i k o w (λ _. refl)
+  pub refusing : {i : Tables} {k : Call} {o : Outcome} → Works F i i k o → Promised F i i k o
+  refusing w = promised w (λ _. refl)
 
   -- from the promise of each call to the promise of all
   module _ (i : Tables) (ok : set_up_verdict F.plan i.settings ≡ granted tt) where

@@ -1,16 +1,9 @@
 -- An event put in the caller's line.
-use Rattle.std.proofs.Common.{◌≡◌, ◌+◌, ◌%◌, ◌<◌, List, [], ◌∷◌, ◌++◌, length, refl, ◌∙◌, arith}
+use Rattle.std.proofs.Common.{◌≡◌, ◌+◌, ◌%◌, List, [], ◌∷◌, ◌++◌, length, refl, ◌∙◌, arith}
 use Rattle.std.proofs.lemmas.List.{length-set}
-use Rattle.std.proofs.lemmas.Bool.{cond-false, ne_eqb}
-use Rattle.line.specs.Queues.{Queue, free_places, put}
-use Rattle.line.specs.Runs.{used}
-use Rattle.line.specs.Runs.Use.{puts}
+use Rattle.line.specs.Queues.{Queue, put}
 use Rattle.network.specs.declared.event.Event.{Event}
 use Rattle.network.specs.Runs.{put_all}
-
--- a put where a place is free
-pub put_free : (q r : Queue Event) (x : Event) → r ≡ used q (puts x) → q.held < length q.memory → r ≡ put q x
-put_free q r x e h = e ∙ cond-false _ _ _ (ne_eqb (free_places q) 0 (λ z. omega arith))
 
 -- room and length of a line after puts
 pub put_length : (q : Queue Event) (xs : List Event) → (length (put_all q xs).memory ≡ length q.memory) × ((put_all q xs).held ≡ q.held + length xs)

@@ -1,7 +1,6 @@
 -- Lists in the records of tickets, and the tickets that wait at a node.
-use Rattle.std.proofs.Common.{◌≡◌, ℕ, ◌+◌, ◌<◌, ◌≤◌, cond, eqb, ◌⊎◌, List, [], ◌∷◌, ◌++◌, length, get_or, map, take, drop, set, Some, None, Option, unwrap_or, sym, refl, ap, ◌∙◌, subst, subst₂, inl, inr, add-one, arith}
-use Rattle.std.proofs.lemmas.List.{map-set, get_or-map, take_more, length-append, get_or-set_same, get_or-set_other}
-use Rattle.std.proofs.lemmas.Bool.{cases_eq, cond-true, cond-false, eq-eqb, ne_eqb}
+use Rattle.std.proofs.Common.{◌≡◌, ℕ, ◌+◌, ◌<◌, ◌≤◌, List, [], ◌∷◌, ◌++◌, length, get_or, map, take, drop, set, Some, None, Option, unwrap_or, sym, refl, ap, ◌∙◌, subst, subst₂, add-one, arith}
+use Rattle.std.proofs.lemmas.List.{map-set, get_or-map, take_more, length-append}
 use Rattle.fabric.specs.declared.parts.Flit.{Flit}
 use Rattle.batch.specs.declared.batch.Batch.{Batch}
 use Rattle.batch.specs.Items.{items, first_of}
@@ -27,11 +26,6 @@ values_upto xs ys (ℕ.suc n) h l e =
 pub length_values : (xs : List (Option ℕ)) (n : ℕ) → length (values xs n) ≡ n
 length_values xs ℕ.zero = refl
 length_values xs (ℕ.suc n) = length-append (values xs n) _ ∙ ap (λ k. k + 1) (length_values xs n) ∙ add-one n
-
--- the first of a line, if there is one
-pub head_none : (xs : List ℕ) → None ≡ first_of xs → (t : ℕ) (ts : List ℕ) → xs ≡ t ∷ ts → ⊥
-head_none [] e t ts q = let z : ◌≡◌ {A = ℕ} 0 1 = cc in omega arith
-head_none (x ∷ xs) e t ts q = let z : ◌≡◌ {A = ℕ} 0 1 = cc in omega arith
 
 pub head_some : (xs : List ℕ) (u : ℕ) → Some u ≡ first_of xs → (t : ℕ) (ts : List ℕ) → xs ≡ t ∷ ts → t ≡ u
 head_some [] u e t ts q = let z : ◌≡◌ {A = ℕ} 0 1 = cc in absurd (omega arith)
@@ -77,12 +71,3 @@ let_go i j n u v t o p r its vu tu wi is ro se ti st le =
 pub one_line : (ws : List (Batch ℕ 8)) (n : ℕ) (b d : Batch ℕ 8) (f : List ℕ → List ℕ) → n < length ws → items b ≡ f (items (get_or ws n d)) →
     map items (set ws n b) ≡ set (map items ws) n (f (get_or (map items ws) n []))
 one_line ws n b d f h e = map-set items ws n b ∙ ap (λ x. set (map items ws) n x) (e ∙ ap f (sym (get_or-map items ws n d [] h)))
-
--- a word in its place
-pub got : (xs : List (Option ℕ)) (k m w j : ℕ) → m ≡ k → m < length xs → get_or (set xs m (Some w)) j None ≡ cond (eqb j k) (Some w) (get_or xs j None)
-got xs k m w j e l = go (cases_eq j k)
-  where
-    go : (j ≡ k) ⊎ (j ≡ k → ⊥) → get_or (set xs m (Some w)) j None ≡ cond (eqb j k) (Some w) (get_or xs j None)
-    go (inl q) =
-        ap (λ x. get_or (set xs m (Some w)) x None) (q ∙ sym e) ∙ get_or-set_same xs m (Some w) None l ∙ sym (cond-true _ _ _ (eq-eqb j k q))
-    go (inr q) = get_or-set_other xs m j (Some w) None (λ z. q (z ∙ e)) ∙ sym (cond-false _ _ _ (ne_eqb j k q))

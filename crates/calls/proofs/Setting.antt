@@ -62,7 +62,7 @@ begin F law i P x ok =
     }
 
 pub begins : (F : Fabric) → Lawful F.plan → LawfulSwitch F.turn → (i : Tables) (P : Settings) → Starts i P → set_up_verdict F.plan P ≡ granted tt → Begins F P i
-begins F law sw i P x ok = let b = begin F law i P x ok in record { settings = x.settings; follows = b; whole = whole F law sw i b.lawful b }
+begins F law sw i P x ok = let b = begin F law i P x ok in record { settings = x.settings; follows = b; whole = whole law sw i b.lawful b }
 
 -- as a network stands before any set-up
 pub first_settings : (p : Plan) → Lawful p → set_up_verdict p (record { tickets = 1; words = 1; epoch = 4096; seed = 1 }) ≡ granted tt

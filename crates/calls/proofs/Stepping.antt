@@ -1,5 +1,5 @@
 -- The steps of a node's work on four places.
-use Rattle.std.proofs.Common.{◌≡◌, ℕ, ◌+◌, ◌*◌, ◌<◌, ◌≤◌, ◌⊎◌, List, length, get_or, set, None, Option, sym, refl, ap, ◌∙◌, subst, inl, inr, add-one, arith}
+use Rattle.std.proofs.Common.{◌≡◌, ℕ, ◌+◌, ◌*◌, ◌<◌, ◌⊎◌, List, length, get_or, set, None, Option, sym, refl, ap, ◌∙◌, subst, inl, inr, add-one, arith}
 use Rattle.std.proofs.lemmas.List.{get_or-set_same, get_or-set_other}
 use Rattle.std.proofs.lemmas.Bool.{cases_eq}
 use Rattle.fabric.specs.declared.parts.Port.{Port}
@@ -11,7 +11,7 @@ use Rattle.fabric.specs.Ports.{place_of}
 use Rattle.switch.specs.Switches.{at}
 use Rattle.network.specs.Runs.{port_of}
 use Rattle.network.specs.Computed.{due, better, best}
-use Rattle.calls.specs.Steps.{far_place, best_upto, Spread, SpreadUpto}
+use Rattle.calls.specs.Steps.{far_place, best_upto, SpreadUpto}
 use Rattle.calls.proofs.Looking.{place_of_port}
 use Rattle.calls.proofs.Setting.{place_below}
 
@@ -53,9 +53,6 @@ far_same p law m n q r hm hn e =
     (ap (λ (z : Slot). z.node) b, ap (λ (z : Slot). z.port) b)
 
 module _ (p : Plan) (law : Lawful p) (n : ℕ) (hn : n < p.nodes) (leaving before : List (Option Flit)) where
-  pub spread_none : SpreadUpto p n 0 leaving before before
-  spread_none = record { sent = λ q h. absurd (omega arith); rest = λ j h. refl }
-
   pub spread_more : (k to : ℕ) (after : List (Option Flit)) → k < 4 → to ≡ far_place p n (port_of k) → to < length after →
       SpreadUpto p n k leaving before after → SpreadUpto p n (k + 1) leaving before (set after to (get_or leaving k None))
   spread_more k to after h e l u =
@@ -76,13 +73,6 @@ module _ (p : Plan) (law : Lawful p) (n : ℕ) (hn : n < p.nodes) (leaving befor
         rest = λ j b.
             get_or-set_other after to j (get_or leaving k None) None (λ z. b (port_of k) (omega arith) (z ∙ e))
             ∙ u.rest j (λ q c. b q (omega arith));
-      }
-
-  pub spread_all : (k : ℕ) (after : List (Option Flit)) → 4 ≤ k → SpreadUpto p n k leaving before after → Spread p n leaving before after
-  spread_all k after h u =
-      record {
-        sent = λ q. u.sent q (let b = place_below q in omega arith);
-        rest = λ j b. u.rest j (λ q c. b q);
       }
 
 pub best_step : (g n k : ℕ) (xs : List (Option Flit)) (found r : Option (Port × Flit)) (p : Port) (o : Option Flit) → k < 4 →

@@ -2,7 +2,7 @@
 ghost use Rattle.std.specs.Prelude.{◌≡◌, ◌<◌, true};
 ghost use Rattle.fabric.specs.Refusals.{shown};
 ghost use Rattle.fabric.specs.Verdicts.Verdict.{granted};
-ghost use Rattle.line.specs.Lines.{queue_of};
+ghost use Rattle.line.specs.Lines.{queue_of, SameLender};
 ghost use Rattle.bounds.specs.SetUp.{set_up_verdict};
 ghost use Rattle.bounds.specs.Lateness.{latest};
 ghost use Rattle.network.specs.Runs.Call.{offer as offers, cycle as cycles, collect as collects, look as looks};
@@ -93,7 +93,7 @@ impl<L: Layout, S: Switch> Network<L, S> {
         if destination >= nodes || destination == node {
             return Err(Refusal::Destination);
         }
-        if words.len() == 0 || words.len() > self.inner.settings.words {
+        if words.is_empty() || words.len() > self.inner.settings.words {
             return Err(Refusal::Words);
         }
         let ticket = node * self.inner.settings.tickets + own;
@@ -154,7 +154,7 @@ impl<L: Layout, S: Switch> Network<L, S> {
         requires { node < (L.plan self.old.layout).nodes }
         ensures works { NodeWorks (fabric_of L.plan S.turn self.old) self.old.inner self.new.inner node golden arriving.old arriving.new (queue_of line.old) (queue_of line.new) result }
         ensures parts { SameParts self.old self.new }
-        ensures lender { line.new.memory.ghost_name ≡ line.old.memory.ghost_name }
+        ensures lender { SameLender line.old line.new }
     {
         let (left, off) = self.inner.take_off(node, golden, line);
         let places = self.inner.enter(node, left, line);
@@ -169,7 +169,7 @@ impl<L: Layout, S: Switch> Network<L, S> {
     pub fn cycle(&mut self, line: &mut Line<Event>) -> Result<usize, Refusal>
         ensures promised { Promised (fabric_of L.plan S.turn self.old) self.old.inner self.new.inner (cycles (queue_of line.old)) (cycling (shown result) (queue_of line.new)) }
         ensures parts { SameParts self.old self.new }
-        ensures lender { line.new.memory.ghost_name ≡ line.old.memory.ghost_name }
+        ensures lender { SameLender line.old line.new }
     {
         if self.inner.cycles >= MOST_CYCLES {
             return Err(Refusal::Cycles);

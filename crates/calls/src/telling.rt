@@ -1,7 +1,7 @@
 // What a cycle tells in the caller's line.
 ghost use Rattle.std.specs.Prelude.{◌≡◌, ◌<◌, length};
 ghost use Rattle.line.specs.Queues.{put};
-ghost use Rattle.line.specs.Lines.{queue_of};
+ghost use Rattle.line.specs.Lines.{queue_of, SameLender};
 ghost use Rattle.calls.specs.Telling.{event_of};
 
 use fabric::parts::Flit;
@@ -12,7 +12,7 @@ use network::event::{Event, Kind};
 pub(crate) fn tell(line: &mut Line<Event>, cycle: u32, kind: Kind, flit: Flit, node: usize)
     requires { node < 64 }
     ensures put { (queue_of line.old).held < length (queue_of line.old).memory → queue_of line.new ≡ put (queue_of line.old) (event_of cycle kind flit node) }
-    ensures lender { line.new.memory.ghost_name ≡ line.old.memory.ghost_name }
+    ensures lender { SameLender line.old line.new }
 {
     let _ = line.put(Event {
         cycle,

@@ -9,7 +9,7 @@ pub(crate) const WORDS: usize = 4;
 #[derive(Clone, Copy)]
 pub(crate) struct Ticket {
     pub destination: u8,
-    // so many words has it, those to send and those received
+    // how many words it has: the length of both arrays below, which two batches would hold twice
     pub size: u8,
     pub sent: u8,
     pub words: [u32; WORDS],

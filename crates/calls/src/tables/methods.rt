@@ -1,4 +1,4 @@
-// What the calls do to the tables.
+// What the calls do to the tables. An element with a ghost field is copied out and put back: no proof is found of a `&mut` to it.
 ghost use Rattle.std.specs.Prelude.{◌≡◌, ◌*◌, ◌<◌, ◌≤◌, length, None, slice_index_or};
 ghost use Rattle.clock.specs.Epochs.{golden_ticket};
 ghost use Rattle.network.specs.Cycle.{in_slot_order};
@@ -13,6 +13,7 @@ use bounds::settings::Settings;
 use clock::draw::shift;
 use clock::epoch::golden;
 use fabric::parts::Flit;
+use std::array;
 
 impl Tables {
     // The tables of a network just set up.
@@ -30,13 +31,14 @@ impl Tables {
         }
     }
 
-    // Takes over a packet under a free ticket of a node, where it then waits: fewer than all of the node's tickets wait then.
+    // Takes over a packet under a free ticket of a node, where it then waits.
     pub(crate) fn accept(&mut self, node: usize, ticket: usize, destination: usize, words: &[u32])
         requires { (node < 64) × ((ticket < 512) × ((destination < 64) × (length words.now ≤ 4))) }
         ensures { Accepts self.old self.new node ticket destination words.now }
     {
         self.tickets[ticket] = Some(Ticket::new(destination as u8, words));
         let mut line = self.waits[node];
+        // a node with a free ticket has a place in its line
         let _ = line.push(ticket as u16);
         self.waits[node] = line;
     }
@@ -95,7 +97,7 @@ impl Tables {
     {
         let r = shift(self.register);
         self.register = r;
-        [r % 2 == 1, r / 2 % 2 == 1, r / 4 % 2 == 1, r / 8 % 2 == 1]
+        array::from_fn(|k| r >> k & 1 == 1)
     }
 
     // The four places of a node.
@@ -103,12 +105,7 @@ impl Tables {
         requires { node < 64 }
         ensures { result ≡ in_slot_order (slot_of self.now.slots node) }
     {
-        [
-            self.slots[4 * node],
-            self.slots[4 * node + 1],
-            self.slots[4 * node + 2],
-            self.slots[4 * node + 3],
-        ]
+        array::from_fn(|k| self.slots[4 * node + k])
     }
 
     // The golden ticket of this cycle.

@@ -1,6 +1,6 @@
 // What a node ejects and injects.
 ghost use Rattle.std.specs.Prelude.{◌≡◌, ◌<◌};
-ghost use Rattle.line.specs.Lines.{queue_of};
+ghost use Rattle.line.specs.Lines.{queue_of, SameLender};
 ghost use Rattle.calls.specs.Midway.{TakesOff, Enters};
 
 use super::super::steps::{best, gap, with};
@@ -20,7 +20,7 @@ impl Tables {
     ) -> ([Option<Flit>; 4], usize)
         requires { node < 64 }
         ensures takes { TakesOff self.old self.new node golden (queue_of line.old) (queue_of line.new) result.0 result.1 }
-        ensures lender { line.new.memory.ghost_name ≡ line.old.memory.ghost_name }
+        ensures lender { SameLender line.old line.new }
     {
         let places = self.places(node);
         match best(golden, node, places) {
@@ -42,7 +42,7 @@ impl Tables {
     ) -> [Option<Flit>; 4]
         requires { node < 64 }
         ensures enters { Enters self.old self.new node (queue_of line.old) (queue_of line.new) places result }
-        ensures lender { line.new.memory.ghost_name ≡ line.old.memory.ghost_name }
+        ensures lender { SameLender line.old line.new }
     {
         let Some(port) = gap(places) else {
             return places;

@@ -4,7 +4,7 @@ ghost use Rattle.fabric.specs.Refusals.{shown};
 ghost use Rattle.line.specs.Queues.{oldest, put_verdict};
 ghost use Rattle.line.specs.Runs.{used, Continues};
 ghost use Rattle.line.specs.Runs.Use.{puts, takes};
-ghost use Rattle.line.specs.Lines.{queue_of, holds};
+ghost use Rattle.line.specs.Lines.{queue_of, holds, SameLender};
 
 use super::Line;
 use fabric::refusal::Refusal;
@@ -16,7 +16,7 @@ impl<'a, T: Copy> Line<'a, T> {
         ensures queue { queue_of self.new ≡ used (queue_of self.old) (puts x) }
         ensures contents { elim result [ Ok _ ↦ holds self.new ≡ holds self.old ++ x ∷ [] | Err _ ↦ holds self.new ≡ holds self.old ] }
         ensures runs { Continues (queue_of self.old) (puts x) (queue_of self.new) }
-        ensures lender { self.new.memory.ghost_name ≡ self.old.memory.ghost_name }
+        ensures lender { SameLender self.old self.new }
     {
         if self.held == self.memory.len() {
             return Err(Refusal::Full);
@@ -34,7 +34,7 @@ impl<'a, T: Copy> Line<'a, T> {
         ensures queue { queue_of self.new ≡ used (queue_of self.old) takes }
         ensures contents { elim result [ Some x ↦ holds self.old ≡ x ∷ holds self.new | None ↦ (holds self.old ≡ []) × (holds self.new ≡ []) ] }
         ensures runs { Continues (queue_of self.old) takes (queue_of self.new) }
-        ensures lender { self.new.memory.ghost_name ≡ self.old.memory.ghost_name }
+        ensures lender { SameLender self.old self.new }
     {
         if self.held == 0 {
             return None;

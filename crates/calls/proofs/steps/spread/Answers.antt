@@ -1,6 +1,6 @@
 use Rattle.std.proofs.Common.{get_or, None, ◌∙◌, arith}
 use Rattle.std.proofs.lemmas.List.{length-set}
-use Rattle.calls.proofs.Stepping.{spread_none, spread_more, spread_all}
+use Rattle.calls.proofs.Stepping.{spread_more}
 use Rattle.calls.proofs.steps.spread.Goals as goal
 
 pub loop-k-preserved : goal.loop-k-preserved
@@ -12,15 +12,3 @@ loop-k-preserved g c =
       length-set c.loop-k.slots c.far-to.result (get_or c.args.leaving c.loop-k.k None) ∙ l,
       spread_more p law c.args.node c.requires c.args.leaving c.args.slots.now c.loop-k.k c.far-to.result c.loop-k.slots (omega arith) c.far-to.ensures.is (omega arith) c.loop-k.invariant.1,
     )
-
-pub loop-k-init : goal.loop-k-init
-loop-k-init g c =
-    let p = g.L.Layout.plan c.args.layout.now in
-    let law = g.met.L.Layout.lawful c.args.layout.now in
-    (omega arith, spread_none p law c.args.node c.requires c.args.leaving c.args.slots.now)
-
-pub returns : goal.returns
-returns g c =
-    let p = g.L.Layout.plan c.args.layout.now in
-    let law = g.met.L.Layout.lawful c.args.layout.now in
-    spread_all p law c.args.node c.requires c.args.leaving c.args.slots.now c.loop-k.k c.loop-k.slots (omega arith) c.loop-k.invariant.1

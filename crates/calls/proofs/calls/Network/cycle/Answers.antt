@@ -1,40 +1,38 @@
 use Rattle.std.proofs.Common.{ℕ, ◌*◌, refl, ap, ◌∙◌, subst₂, arith}
 use Rattle.line.specs.Lines.{queue_of}
 use Rattle.clock.specs.Epochs.{golden_ticket}
-use Rattle.network.specs.Cycle.{Fabric}
+use Rattle.calls.specs.Networks.{fabric_of}
 use Rattle.calls.specs.Midway.{NodeWorks}
 use Rattle.calls.proofs.Promising.{not_refused, promised, refusing}
 use Rattle.calls.proofs.Rounds.{round_none, round_more, no_cycle, no_room, cycles_on}
 use Rattle.calls.proofs.calls.Network.cycle.Goals as goal
 
-pub returns-then-self-ge-MOST_CYCLES : goal.returns-then-self-ge-MOST_CYCLES
-returns-then-self-ge-MOST_CYCLES g c =
+pub returns-then-self-ge-MOST_CYCLES-clause-promised : goal.returns-then-self-ge-MOST_CYCLES-clause-promised
+returns-then-self-ge-MOST_CYCLES-clause-promised g c =
     let s = c.args.self.now in
     let law = g.met.L.Layout.lawful s.layout in
-    let F : Fabric = record { plan = g.L.Layout.plan s.layout; turn = g.S.Switch.turn s.switch } in
+    let F = fabric_of g.L.Layout.plan g.S.Switch.turn s in
     let q = queue_of c.args.line.now in
-    let b = refusing F law (g.met.S.Switch.lawful s.switch) s.inner _ _ (no_cycle F s.inner law q c.if-self-ge-MOST_CYCLES.true) in
-    record { promised = b; parts = (refl, refl); lender = refl }
+    refusing law (g.met.S.Switch.lawful s.switch) (no_cycle F s.inner law q c.if-self-ge-MOST_CYCLES.true)
 
-pub returns-then-free-nodes : goal.returns-then-free-nodes
-returns-then-free-nodes g c =
+pub returns-then-free-nodes-clause-promised : goal.returns-then-free-nodes-clause-promised
+returns-then-free-nodes-clause-promised g c =
     let s = c.args.self.now in
     let law = g.met.L.Layout.lawful s.layout in
-    let F : Fabric = record { plan = g.L.Layout.plan s.layout; turn = g.S.Switch.turn s.switch } in
+    let F = fabric_of g.L.Layout.plan g.S.Switch.turn s in
     let q = queue_of c.args.line.now in
-    let b = refusing F law (g.met.S.Switch.lawful s.switch) s.inner _ _ (no_room F s.inner law q c.if-self-ge-MOST_CYCLES.false (omega arith)) in
-    record { promised = b; parts = (refl, refl); lender = refl }
+    refusing law (g.met.S.Switch.lawful s.switch) (no_room F s.inner law q c.if-self-ge-MOST_CYCLES.false (omega arith))
 
 pub loop-node-init : goal.loop-node-init
 loop-node-init g c =
     let s = c.args.self.now in
-    let F : Fabric = record { plan = g.L.Layout.plan s.layout; turn = g.S.Switch.turn s.switch } in
-    (round_none F s.inner c.golden-golden.result _ (queue_of c.args.line.now), refl, refl, refl)
+    let F = fabric_of g.L.Layout.plan g.S.Switch.turn s in
+    (round_none F s.inner c.golden-golden.result _ (queue_of c.args.line.now), (refl, refl), refl)
 
 pub loop-node-preserved : goal.loop-node-preserved
 loop-node-preserved g c =
     let s = c.args.self.now in
-    let F : Fabric = record { plan = g.L.Layout.plan s.layout; turn = g.S.Switch.turn s.switch } in
+    let F = fabric_of g.L.Layout.plan g.S.Switch.turn s in
     let i = c.loop-node.invariant in
     let w = c.work-off in (
       round_more F s.inner c.loop-node.self.inner w.new.self.inner c.loop-node.node c.golden-golden.result c.loop-node.arriving w.new.arriving
@@ -42,21 +40,19 @@ loop-node-preserved g c =
           (subst₂ (λ (x : g.row.L.Denot) (y : g.row.S.Denot).
           NodeWorks (record { plan = g.L.Layout.plan x; turn = g.S.Switch.turn y }) c.loop-node.self.inner w.new.self.inner c.loop-node.node c.golden-golden.result
           c.loop-node.arriving w.new.arriving (queue_of c.loop-node.line) (queue_of w.new.line) w.result)
-          i.1 i.2 w.ensures.works),
-      w.ensures.parts.0 ∙ i.1,
-      w.ensures.parts.1 ∙ i.2,
-      w.ensures.lender ∙ i.3,
+          i.1.0 i.1.1 w.ensures.works),
+      (w.ensures.parts.0 ∙ i.1.0, w.ensures.parts.1 ∙ i.1.1),
+      w.ensures.lender ∙ i.2,
     )
 
-pub returns : goal.returns
-returns g c =
+pub returns-clause-promised : goal.returns-clause-promised
+returns-clause-promised g c =
     let s = c.args.self.now in
     let law = g.met.L.Layout.lawful s.layout in
-    let F : Fabric = record { plan = g.L.Layout.plan s.layout; turn = g.S.Switch.turn s.switch } in
+    let F = fabric_of g.L.Layout.plan g.S.Switch.turn s in
     let i = c.loop-node.invariant in
     let q = queue_of c.args.line.now in
-    let b = promised F law (g.met.S.Switch.lawful s.switch) s.inner c.advance.new.self _ _
+    promised law (g.met.S.Switch.lawful s.switch)
     (cycles_on F s.inner law q c.if-self-ge-MOST_CYCLES.false (omega arith) c.args.line.now.sound.0 c.loop-node.self.inner c.advance.new.self c.golden-golden.result
     c.loop-node.arriving (queue_of c.loop-node.line) c.loop-node.off c.loop-node.node
-    (c.golden-golden.ensures ∙ ap (λ (x : ℕ). golden_ticket (x * s.inner.settings.tickets) s.inner.settings.epoch s.inner.cycles) c.nodes-nodes.ensures) (omega arith) i.0 c.advance.ensures) not_refused in
-    record { promised = b; parts = (i.1, i.2); lender = i.3 }
+    (c.golden-golden.ensures ∙ ap (λ (x : ℕ). golden_ticket (x * s.inner.settings.tickets) s.inner.settings.epoch s.inner.cycles) c.nodes-nodes.ensures) (omega arith) i.0 c.advance.ensures) not_refused

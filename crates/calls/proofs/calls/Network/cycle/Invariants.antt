@@ -1,10 +1,10 @@
-use Rattle.std.proofs.Common.{◌≡◌}
-use Rattle.line.specs.Lines.{queue_of}
+use Rattle.line.specs.Lines.{queue_of, SameLender}
 use Rattle.calls.specs.Midway.{Round}
+use Rattle.calls.specs.Networks.{SameParts}
 use Rattle.calls.proofs.calls.Network.cycle.Given as goal
 
 abbrev pub invariant-loop-node : goal.invariant-loop-node
 invariant-loop-node g l =
     Round (record { plan = g.L.Layout.plan l.initial.self.layout; turn = g.S.Switch.turn l.initial.self.switch }) l.initial.self.inner l.self.inner l.node l.golden l.arriving
     (queue_of l.initial.line) (queue_of l.line) l.off
-    × (l.self.layout ≡ l.initial.self.layout) × (l.self.switch ≡ l.initial.self.switch) × (l.line.memory.ghost_name ≡ l.initial.line.memory.ghost_name)
+    × SameParts l.initial.self l.self × SameLender l.initial.line l.line

@@ -7,11 +7,11 @@ pub returns-then-node-nodes : goal.returns-then-node-nodes
 returns-then-node-nodes g c =
     let s = c.args.self.now in
     record {
-      promised = refusing _ (g.met.L.Layout.lawful s.layout) (g.met.S.Switch.lawful s.switch) s.inner _ _
+      promised = refusing (g.met.L.Layout.lawful s.layout) (g.met.S.Switch.lawful s.switch)
           (no_look _ _ c.args.node c.args.port (⊎_elim (λ h. inl (omega arith)) (λ h. inr h.1) c.then-node-nodes.either));
     }
 
 pub returns : goal.returns
 returns g c =
     let s = c.args.self.now in
-    record { promised = refusing _ (g.met.L.Layout.lawful s.layout) (g.met.S.Switch.lawful s.switch) s.inner _ _ (a_look _ _ c.args.node c.args.port (search rules) (search rules)) }
+    record { promised = refusing (g.met.L.Layout.lawful s.layout) (g.met.S.Switch.lawful s.switch) (a_look _ _ c.args.node c.args.port (search rules) (search rules)) }

@@ -1,11 +1,7 @@
-use Rattle.std.proofs.Common.{refl}
 use Rattle.calls.proofs.Setting.{begins, first_settings}
 use Rattle.calls.proofs.calls.Network.new.Goals as goal
 
-pub returns : goal.returns
-returns g c =
+pub returns-clause-begins : goal.returns-clause-begins
+returns-clause-begins g c =
     let law = g.met.L.Layout.lawful c.args.layout in
-    record {
-      begins = begins _ law (g.met.S.Switch.lawful c.args.switch) c.fresh-inner.result _ c.fresh-inner.ensures (first_settings _ law);
-      parts = (refl, refl);
-    }
+    begins _ law (g.met.S.Switch.lawful c.args.switch) c.fresh-inner.result _ c.fresh-inner.ensures (first_settings _ law)

@@ -1,20 +1,14 @@
-use Rattle.std.proofs.Common.{refl, ◌∙◌}
 use Rattle.line.specs.Lines.{queue_of}
-use Rattle.network.specs.Cycle.{Fabric}
+use Rattle.calls.specs.Networks.{fabric_of}
 use Rattle.calls.proofs.Working.{node_works}
 use Rattle.calls.proofs.calls.Network.work.Goals as goal
 
-pub returns : goal.returns
-returns g c =
+pub returns-clause-works : goal.returns-clause-works
+returns-clause-works g c =
     let s = c.args.self.now in
-    let F : Fabric = record { plan = g.L.Layout.plan s.layout; turn = g.S.Switch.turn s.switch } in
-    record {
-      works =
-          node_works F (g.met.L.Layout.lawful s.layout) s.inner c.take_off-off.new.self c.enter-places.new.self c.draw-draws.new.self c.args.node c.args.golden c.requires
-          c.args.arriving.now c.spread.new.slots (queue_of c.args.line.now) (queue_of c.take_off-off.new.line) (queue_of c.enter-places.new.line) c.take_off-off.result.1
-          c.take_off-off.result.0 c.enter-places.result c.route-leaving.result c.wishes-wishes.result c.draw-draws.result
-          c.take_off-off.ensures.takes c.enter-places.ensures.enters c.draw-draws.ensures
-          c.wishes-wishes.ensures c.route-leaving.ensures c.spread.ensures;
-      parts = (refl, refl);
-      lender = c.enter-places.ensures.lender ∙ c.take_off-off.ensures.lender;
-    }
+    let F = fabric_of g.L.Layout.plan g.S.Switch.turn s in
+    node_works F (g.met.L.Layout.lawful s.layout) s.inner c.take_off-off.new.self c.enter-places.new.self c.draw-draws.new.self c.args.node c.args.golden c.requires
+    c.args.arriving.now c.spread.new.slots (queue_of c.args.line.now) (queue_of c.take_off-off.new.line) (queue_of c.enter-places.new.line) c.take_off-off.result.1
+    c.take_off-off.result.0 c.enter-places.result c.route-leaving.result c.wishes-wishes.result c.draw-draws.result
+    c.take_off-off.ensures.takes c.enter-places.ensures.enters c.draw-draws.ensures
+    c.wishes-wishes.ensures c.route-leaving.ensures c.spread.ensures

@@ -8,38 +8,32 @@ use Rattle.calls.specs.Midway.{Took}
 use Rattle.calls.proofs.Takes.{took_none, took_some, same_best}
 use Rattle.calls.proofs.tables.Tables.take_off.Goals as goal
 
-pub returns-in-None : goal.returns-in-None
-returns-in-None c =
+pub returns-in-None-clause-takes : goal.returns-in-None-clause-takes
+returns-in-None-clause-takes c =
     let i = c.args.self.now in
     let n = c.args.node in
     let g = c.args.golden in
     let q = queue_of c.args.line.now in
     record {
-      takes = record {
-        keeps = record { settings = refl; cycles = refl; register = refl; slots = refl };
-        few = omega arith;
-        took = λ F s l law led h gold b room.
-            subst (λ (xs : List (Option Flit)). Took F i.settings s n l i q q xs 0) (sym c.places-places.ensures)
-            (took_none F i s l n g law led h gold b i q (record { settings = refl; cycles = refl; register = refl; slots = refl }) refl refl
-            (sym (same_best F i s l n g law led h gold b) ∙ ap (λ xs. best g (λ p. due n (at xs p))) (sym c.places-places.ensures) ∙ sym c.in-None.ensures));
-      };
-      lender = refl;
+      keeps = record { settings = refl; cycles = refl; register = refl; slots = refl };
+      few = omega arith;
+      took = λ F s l law led h gold b room.
+          subst (λ (xs : List (Option Flit)). Took F i.settings s n l i q q xs 0) (sym c.places-places.ensures)
+          (took_none F i s l n g law led h gold b i q (record { settings = refl; cycles = refl; register = refl; slots = refl }) refl refl
+          (sym (same_best F i s l n g law led h gold b) ∙ ap (λ xs. best g (λ p. due n (at xs p))) (sym c.places-places.ensures) ∙ sym c.in-None.ensures));
     }
 
-pub returns-in-Some : goal.returns-in-Some
-returns-in-Some c =
+pub returns-in-Some-clause-takes : goal.returns-in-Some-clause-takes
+returns-in-Some-clause-takes c =
     let i = c.args.self.now in
     let n = c.args.node in
     let g = c.args.golden in
     record {
-      takes = record {
-        keeps = c.take_in.ensures.keeps;
-        few = omega arith;
-        took = λ F s l law led h gold b room.
-            took_some F i s l n g law led h gold b c.in-Some.port c.in-Some.flit
-            (sym (same_best F i s l n g law led h gold b) ∙ ap (λ xs. best g (λ p. due n (at xs p))) (sym c.places-places.ensures) ∙ sym c.in-Some.ensures)
-            c.take_in.new.self (queue_of c.args.line.now) (queue_of c.tell.new.line) c.with.result c.take_in.new.self.cycles c.take_in.ensures
-            (c.with.ensures ∙ ap (λ xs. set xs (place_of c.in-Some.port) None) c.places-places.ensures) c.take_in.ensures.keeps.cycles (c.tell.ensures.put room);
-      };
-      lender = c.tell.ensures.lender;
+      keeps = c.take_in.ensures.keeps;
+      few = omega arith;
+      took = λ F s l law led h gold b room.
+          took_some F i s l n g law led h gold b c.in-Some.port c.in-Some.flit
+          (sym (same_best F i s l n g law led h gold b) ∙ ap (λ xs. best g (λ p. due n (at xs p))) (sym c.places-places.ensures) ∙ sym c.in-Some.ensures)
+          c.take_in.new.self (queue_of c.args.line.now) (queue_of c.tell.new.line) c.with.result c.take_in.new.self.cycles c.take_in.ensures
+          (c.with.ensures ∙ ap (λ xs. set xs (place_of c.in-Some.port) None) c.places-places.ensures) c.take_in.ensures.keeps.cycles (c.tell.ensures.put room);
     }
