@@ -2,7 +2,6 @@ use Rattle.std.proofs.Common.{◌≡◌, ap, ◌∙◌, subst}
 use Rattle.bounds.specs.declared.settings.Settings.{Settings}
 use Rattle.bounds.specs.SetUp.{set_up_verdict}
 use Rattle.bounds.specs.Lateness.{limits_of}
-use Rattle.fabric.specs.Refusals.{shown}
 use Rattle.fabric.specs.Verdicts.{granting}
 use Rattle.fabric.specs.Verdicts.Verdict.{granted}
 use Rattle.laying.specs.Layings.{at_run_line}
