@@ -53,6 +53,7 @@ fn payload(fields: &mut Fields, count: usize) -> Result<[u32; 4], Fault>
     ensures line { fields.new.line ≡ fields.old.line }
 {
     let mut words = [0; 4];
+    // By index: after a loop over `&mut words[..count]` a proof knows the length of `words`, and not what it holds.
     for i in 0..count {
         words[i] = fields.number()?;
     }

@@ -1,13 +1,10 @@
 -- The lines that lead from one text to another.
 use Rattle.std.proofs.Common.{◌≡◌, ℕ, ◌+◌, List, [], ◌∷◌, ◌++◌, map, sym, refl, ap, ◌∙◌, append_assoc, arith}
 use Rattle.std.proofs.lemmas.List.{length-append, length_push}
+use Rattle.std.proofs.lemmas.Grind.{flat_map-append}
 use Rattle.text.specs.Texts.{Field, Lined, shown, written, text}
 use Rattle.text.proofs.Stopping.{is_line, onward}
 use Rattle.sheet.specs.Reading.{Over}
-
-text_append : (A B : List (List Field)) → text (A ++ B) ≡ text A ++ text B
-text_append [] B = refl
-text_append (a ∷ A) B = ap (λ q. written a ++ q) (text_append A B) ∙ sym (append_assoc (written a) (text A) (text B))
 
 -- no line, one line more, and lines after lines
 pub over_none : (bs rest : List ℕ) (k : ℕ) → rest ≡ bs → k ≡ 0 → Over [] bs 0 rest k
@@ -23,6 +20,6 @@ over_line A l bs rest more i j k ws o n e w =
 pub over_both : (A B : List (List Field)) (bs rest more : List ℕ) (i j k : ℕ) → Over A bs i rest j → Over B rest j more k → Over (A ++ B) bs i more k
 over_both A B bs rest more i j k o p =
     record {
-      bytes = o.bytes ∙ ap (λ q. text A ++ q) p.bytes ∙ sym (append_assoc (text A) (text B) more) ∙ ap (λ q. q ++ more) (sym (text_append A B));
+      bytes = o.bytes ∙ ap (λ q. text A ++ q) p.bytes ∙ sym (append_assoc (text A) (text B) more) ∙ ap (λ q. q ++ more) (sym (flat_map-append written A B));
       read = let z = length-append A B in omega (arith, o.read, p.read);
     }

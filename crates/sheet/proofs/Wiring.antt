@@ -4,7 +4,7 @@ use Rattle.std.specs.List.{AllByRecursion}
 use Rattle.std.proofs.lemmas.List.{map_push}
 use Rattle.std.proofs.ByRecursion.{All-push}
 use Rattle.fabric.specs.declared.parts.Cable.{Cable}
-use Rattle.text.specs.Texts.{Fits, Free, Lined, Barred, shown, Any}
+use Rattle.text.specs.Texts.{Fits, Lined, Barred, shown, Any}
 use Rattle.text.specs.Faults.{told, ill_formed, too_many}
 use Rattle.sheet.specs.Counts.{Counts}
 use Rattle.text.specs.Lines.{cables_line, cable_line}
@@ -14,11 +14,8 @@ use Rattle.sheet.specs.declared.lines.Lines.{Lines}
 use Rattle.text.specs.declared.parts.Shape.{Shape}
 use Rattle.text.specs.declared.parts.Shape.TheVariants.{Cabled}
 use Rattle.text.proofs.Tidy.{tidy_cables}
-use Rattle.text.proofs.Stopping.{is_line, no_line, other_line}
+use Rattle.text.proofs.Stopping.{is_line, other_line}
 use Rattle.sheet.proofs.Going.{over_line}
-
-pub uncounted : (x : Shape) (m : ℕ) → x ≡ Cabled m → (s : Lines) (f : Fault) → told f ≡ ill_formed (s.read + 1) → Free 10 s.rest.now → Miscounted x s f
-uncounted x m e s f at h = subst (λ y. Miscounted y s f) (sym e) (inl (at, no_line cables_line Any s.rest.now h))
 
 pub counted : (x : Shape) (m : ℕ) → x ≡ Cabled m → (s t : Lines) (ws : List (List ℕ)) (k : ℕ) (r : Result ℕ Fault) → Lined s.rest.now ws t.rest.now → t.read ≡ s.read + 1 → k ≡ s.read + 1 → Counts cables_line 128 ws k r → Counted x s t r
 counted x m y s t ws k (Ok n) l e i h = subst (λ z. Counted z s t (Ok n)) (sym y) (over_line [] (cables_line n) _ _ _ _ _ _ ws (record { bytes = refl; read = omega arith }) l e h.0, tt, h.2)
