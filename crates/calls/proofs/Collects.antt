@@ -1,5 +1,5 @@
 -- What a collection does.
-use Rattle.std.proofs.Common.{◌≡◌, ℕ, ◌<◌, ◌≤◌, Bool, true, false, cond, not, ◌&&◌, ◌||◌, eqb, ltb, leb, ◌⊎◌, List, [], ◌∷◌, ◌++◌, length, get_or, map, is_some, Some, None, Option, sym, refl, ap, ◌∙◌, subst, inl, inr, arith}
+use Rattle.std.proofs.Common.{◌≡◌, ℕ, ◌<◌, ◌≤◌, Bool, true, false, cond, not, ◌&&◌, ◌||◌, eqb, ltb, leb, ◌⊎◌, List, [], ◌∷◌, ◌++◌, length, get_or, map, min, is_some, Some, None, Option, sym, refl, ap, ◌∙◌, subst, inl, inr, arith}
 use lib.Arith.{digits_lt}
 use Rattle.std.proofs.lemmas.Bool.{le-leb, lt-leb, le-ltb, lt-ltb, eq-eqb, ne_eqb, or_left, or_right, or_from, cond-true, cond-false}
 use Rattle.fabric.specs.Layouts.{Lawful}
@@ -35,14 +35,17 @@ all_gathered xs t l h (ℕ.suc m) q =
     ap (λ ys. ys ++ (value (get_or xs m None) ∷ [])) (all_gathered xs t l h m (omega arith)) ∙ ap (λ o. gathered t m l ++ (value o ∷ [])) (h m (omega arith))
 
 module _ (r : Ticket) (t : ℕ) (l : Log) (taken : true ≡ not (free t l)) (h : Recorded r t l) where
-  is_complete : all_in r.received r.size ≡ complete t l
+  is_complete : all_in r.received (min r.size 4) ≡ complete t l
   is_complete =
-      all_filled r.received t l h.received r.size r.short
+      ap (all_in r.received) (let short = h.short in let e : min r.size 4 ≡ r.size = omega arith in e)
+      ∙ all_filled r.received t l h.received r.size h.short
       ∙ ap (λ m. filled t m l) h.size
       ∙ ap (λ b. b && filled t (size (packet t l)) l) taken
 
-holds : (r : Ticket) (t : ℕ) (l : Log) → Recorded r t l → values r.received r.size ≡ gathered t (size (packet t l)) l
-holds r t l h = all_gathered r.received t l h.received r.size r.short ∙ ap (λ m. gathered t m l) h.size
+holds : (r : Ticket) (t : ℕ) (l : Log) → Recorded r t l → values r.received (min r.size 4) ≡ gathered t (size (packet t l)) l
+holds r t l h =
+    ap (values r.received) (let short = h.short in let e : min r.size 4 ≡ r.size = omega arith in e)
+    ∙ all_gathered r.received t l h.received r.size h.short ∙ ap (λ m. gathered t m l) h.size
 
 -- two tests, that both hold or not
 not_both : (a b : Bool) → (a && b) ≡ false → (not a || not b) ≡ true
@@ -58,7 +61,7 @@ both false b e = sym e
 -- a packet that the code finds is there, complete, and goes to the node
 found : (o : Option Ticket) (r : ℕ) (p : Ticket) → arrived o r ≡ Some p → o ≡ Some p
 found None r p e = cc
-found (Some q) r p e = go (all_in q.received q.size && eqb q.destination r) e
+found (Some q) r p e = go (all_in q.received (min q.size 4) && eqb q.destination r) e
   where
     go : (b : Bool) → cond b (Some q) None ≡ Some p → Some q ≡ Some p
     go true e = e
@@ -68,7 +71,7 @@ arrives : (o : Option Ticket) (t r : ℕ) (l : Log) → Entry o t l → is_some 
 arrives None t r l e = sym (ap (λ b. (b && filled t (size (packet t l)) l) && eqb (aim (packet t l)) r) (sym e.opened))
 arrives (Some p) t r l e =
     let h = e.recorded p refl in
-    is_some_cond (all_in p.received p.size && eqb p.destination r) p
+    is_some_cond (all_in p.received (min p.size 4) && eqb p.destination r) p
     ∙ ap (λ b. b && eqb p.destination r) (is_complete p t l e.opened h)
     ∙ ap (λ d. complete t l && eqb d r) h.destination
   where
@@ -147,7 +150,7 @@ module _ (F : Fabric) (i : Tables) (r n o : ℕ) (memory : List ℕ) where
             (change (all_tickets F.plan P) t i.tickets None s.log then_log (omega arith) sh.records (record { opened = ap not (sym is_free); recorded = λ q e. cc })
             (λ u d. like _ u s.log then_log (cond-false _ _ _ (ne_eqb u t d)) refl refl (λ k. refl)))
 
-        exactly : (after : List ℕ) → after ≡ over (values p.received p.size) memory → Works F i j (collect r n o memory) (collecting (granted p.size) after)
+        exactly : (after : List ℕ) → after ≡ over (values p.received (min p.size 4)) memory → Works F i j (collect r n o memory) (collecting (granted p.size) after)
         exactly after w =
             record {
               does = λ s led sh.
@@ -164,6 +167,6 @@ module _ (F : Fabric) (i : Tables) (r n o : ℕ) (memory : List ℕ) where
                   };
             }
 
-        pub grants : (z : ℕ) → z ≡ p.size → (after : List ℕ) → after ≡ over (values p.received p.size) memory →
+        pub grants : (z : ℕ) → z ≡ p.size → (after : List ℕ) → after ≡ over (values p.received (min p.size 4)) memory →
             Works F i j (collect r n o memory) (collecting (granted z) after)
         grants z e after w = subst (λ (y : ℕ). Works F i j (collect r n o memory) (collecting (granted y) after)) (sym e) (exactly after w)

@@ -1,5 +1,5 @@
 -- A node lets a flit in: the tables then show the log with that.
-use Rattle.std.proofs.Common.{◌≡◌, ℕ, ◌+◌, ◌<◌, false, ◌⊎◌, List, [], ◌∷◌, ◌++◌, get_or, map, drop, set, Some, None, Option, sym, refl, ap, ◌∙◌, subst, inl, inr, arith}
+use Rattle.std.proofs.Common.{◌≤◌, ◌≡◌, ℕ, ◌+◌, ◌<◌, false, ◌⊎◌, List, [], ◌∷◌, ◌++◌, get_or, map, drop, set, Some, None, Option, sym, refl, ap, ◌∙◌, subst, inl, inr, arith}
 use mathlib.Core.Path.{fun_ext}
 use Rattle.std.proofs.lemmas.List.{get_or-set_same, get_or-set_other}
 use Rattle.std.proofs.lemmas.Bool.{cases_eq, eq-eqb, ne_eqb, cond-true, cond-false, and_left, and_right, and_from}
@@ -121,6 +121,7 @@ module _ (F : Fabric) (i : Tables) (s : State) (l : Log) (n : ℕ) (law : Lawful
               size = z.size ∙ x.size;
               sent = z.sent small ∙ ap (λ k. k + 1) x.sent ∙ sym (cond-true _ _ _ (eq-eqb t t refl));
               words = λ k y. ap (λ xs. get_or xs k 0) z.words ∙ x.words k y;
+              short = subst (λ m. m ≤ 4) (sym z.size) x.short;
               received = λ k y. ap (λ xs. get_or xs k None) z.received ∙ x.received k y;
             }
 

@@ -122,6 +122,7 @@ module _ (F : Fabric) (i : Tables) (n o d : ℕ) (ws : List ℕ) where
                 destination = a.packed.goes ∙ ap aim (sym q);
                 size = a.packed.size ∙ ap size (sym q);
                 sent = a.packed.sent ∙ sym (cond-true _ _ _ e);
+                short = subst (λ m. m ≤ 4) (sym a.packed.size) (let f = i.fits.short in omega arith);
                 words = λ k h. a.packed.words k h ∙ ap (λ x. word x k) (sym q);
                 received = λ k h. ap (λ xs. get_or xs k None) a.packed.received ∙ get_or-replicate 4 k None None h ∙ sym (cond-true _ _ _ e);
               }

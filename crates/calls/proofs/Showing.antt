@@ -30,6 +30,7 @@ like o t l m f p s w e =
             destination = h.destination ∙ ap aim (sym p);
             size = h.size ∙ ap size (sym p);
             sent = h.sent ∙ sym s;
+            short = h.short;
             words = λ k q. h.words k q ∙ ap (λ x. word x k) (sym p);
             received = λ k q. h.received k q ∙ sym (w k);
           };

@@ -1,5 +1,5 @@
 -- The steps of a node's work on four places.
-use Rattle.std.proofs.Common.{◌≡◌, ℕ, ◌+◌, ◌*◌, ◌<◌, ◌⊎◌, List, length, get_or, set, None, Option, sym, refl, ap, ◌∙◌, subst, inl, inr, add-one, arith}
+use Rattle.std.proofs.Common.{◌≡◌, ℕ, ◌+◌, ◌*◌, ◌<◌, ◌⊎◌, List, [], ◌∷◌, length, get_or, set, None, Option, sym, refl, ap, ◌∙◌, subst, inl, inr, add-one, arith}
 use Rattle.std.proofs.lemmas.List.{get_or-set_same, get_or-set_other}
 use Rattle.std.proofs.lemmas.Bool.{cases_eq}
 use Rattle.fabric.specs.declared.parts.Port.{Port}
@@ -74,6 +74,14 @@ module _ (p : Plan) (law : Lawful p) (n : ℕ) (hn : n < p.nodes) (leaving befor
             get_or-set_other after to j (get_or leaving k None) None (λ z. b (port_of k) (omega arith) (z ∙ e))
             ∙ u.rest j (λ q c. b q (omega arith));
       }
+
+-- the ports stand in slot order
+pub all_ports : (k : ℕ) (d : Port) → k < 4 → get_or (N ∷ E ∷ S ∷ W ∷ []) k d ≡ port_of k
+all_ports ℕ.zero d l = refl
+all_ports (ℕ.suc ℕ.zero) d l = refl
+all_ports (ℕ.suc (ℕ.suc ℕ.zero)) d l = refl
+all_ports (ℕ.suc (ℕ.suc (ℕ.suc ℕ.zero))) d l = refl
+all_ports (ℕ.suc (ℕ.suc (ℕ.suc (ℕ.suc k)))) d l = absurd (omega arith)
 
 pub best_step : (g n k : ℕ) (xs : List (Option Flit)) (found r : Option (Port × Flit)) (p : Port) (o : Option Flit) → k < 4 →
     r ≡ better g found p o → found ≡ best_upto g (λ q. due n (at xs q)) k → p ≡ port_of k → o ≡ due n (get_or xs k None) → r ≡ best_upto g (λ q. due n (at xs q)) (k + 1)

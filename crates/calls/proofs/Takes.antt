@@ -1,5 +1,5 @@
 -- A node takes a flit off: the tables then show the log with that.
-use Rattle.std.proofs.Common.{◌≡◌, ℕ, ◌<◌, cond, ◌&&◌, eqb, ◌⊎◌, List, ◌∷◌, ◌++◌, get_or, map, set, Some, None, Option, sym, refl, ap, ◌∙◌, subst, inl, inr, arith}
+use Rattle.std.proofs.Common.{◌≤◌, ◌≡◌, ℕ, ◌<◌, cond, ◌&&◌, eqb, ◌⊎◌, List, ◌∷◌, ◌++◌, get_or, map, set, Some, None, Option, sym, refl, ap, ◌∙◌, subst, inl, inr, arith}
 use mathlib.Core.Path.{fun_ext}
 use Rattle.std.proofs.lemmas.Bool.{cases_eq, eq-eqb, ne_eqb, cond-false, and_left}
 use Rattle.fabric.specs.declared.parts.Port.{Port}
@@ -61,6 +61,7 @@ module _ (f : Flit) (n c : ℕ) (l : Log) where
         size = x.size ∙ y.size;
         sent = x.sent ∙ y.sent;
         words = λ k z. ap (λ xs. get_or xs k 0) x.words ∙ y.words k z;
+        short = subst (λ m. m ≤ 4) (sym x.size) y.short;
         received = λ k z.
             x.received k z h
             ∙ ap (λ o. cond (eqb k f.number) (Some f.word) o) (y.received k z)

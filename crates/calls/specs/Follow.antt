@@ -27,6 +27,7 @@ pub record Recorded (r : Ticket) (t : ℕ) (l : log.Log) : Type 0 where
   pub size : r.size ≡ log.size (log.packet t l)
   pub sent : r.sent ≡ log.sent t l
   pub words : (k : ℕ) → k < 4 → slice_index r.words k ≡ log.word (log.packet t l) k
+  pub short : r.size ≤ 4
   pub received : (k : ℕ) → k < 4 → slice_index_or r.received k None ≡ log.received t k l
 
 -- a ticket that is taken has its record, and a free one has none

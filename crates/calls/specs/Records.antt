@@ -1,5 +1,5 @@
 -- The record of a ticket, a node's waiting tickets, and how calls change them.
-use Rattle.std.specs.Prelude.{◌≡◌, ℕ, ◌+◌, ◌<◌, Bool, true, cond, ◌&&◌, List, [], ◌∷◌, ◌++◌, length, map, drop, replicate, Some, None, Option, ◌==◌, ◌≢◌, slice_index, slice_index_or, slice_set}
+use Rattle.std.specs.Prelude.{◌≡◌, ℕ, ◌+◌, ◌<◌, Bool, true, cond, ◌&&◌, List, [], ◌∷◌, ◌++◌, length, min, map, drop, replicate, Some, None, Option, ◌==◌, ◌≢◌, slice_index, slice_index_or, slice_set}
 use Rattle.fabric.specs.declared.parts.Flit.{Flit}
 use Rattle.batch.specs.Items.{items, joined}
 use Rattle.bounds.specs.declared.settings.Settings.{Settings}
@@ -28,7 +28,7 @@ values xs (ℕ.suc m) = values xs m ++ (value (slice_index_or xs m None) ∷ [])
 -- the packet under a ticket, if it is complete and goes to this node
 abbrev pub arrived : Option Ticket → ℕ → Option Ticket
 arrived None n = None
-arrived (Some r) n = cond (all_in r.received r.size && r.destination == n) (Some r) None
+arrived (Some r) n = cond (all_in r.received (min r.size 4) && r.destination == n) (Some r) None
 
 -- just set up
 pub record Starts (i : Tables) (P : Settings) : Type 0 where

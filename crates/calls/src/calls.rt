@@ -97,7 +97,8 @@ impl<L: Layout, S: Switch> Network<L, S> {
             return Err(Refusal::Words);
         }
         let ticket = node * self.inner.settings.tickets + own;
-        if self.inner.tickets[ticket].is_some() {
+        let record = self.inner.tickets[ticket];
+        if record.is_some() {
             return Err(Refusal::NotFree);
         }
         self.inner.accept(node, ticket, destination, words);

@@ -10,18 +10,7 @@ ghost use Rattle.calls.specs.Steps.{wished, far_place, Spread};
 use super::tables::SLOTS;
 use fabric::layout::Layout;
 use fabric::parts::{Flit, Port};
-
-// The ports in slot order.
-pub(crate) fn port(k: usize) -> Port
-    ensures { result ≡ port_of k }
-{
-    match k {
-        0 => Port::N,
-        1 => Port::E,
-        2 => Port::S,
-        _ => Port::W,
-    }
-}
+use switch::rank::Rank;
 
 // The flit in a place, if it is destined for this node.
 fn due(node: usize, place: Option<Flit>) -> Option<Flit>
@@ -34,8 +23,7 @@ fn due(node: usize, place: Option<Flit>) -> Option<Flit>
 fn ahead(golden: usize, one: Flit, other: Flit) -> bool
     ensures { result ≡ is_ahead golden one other }
 {
-    usize::from(one.ticket) == golden
-        && (usize::from(other.ticket) != golden || one.number < other.number)
+    Rank::of(one, golden) < Rank::of(other, golden)
 }
 
 fn better(
@@ -60,7 +48,7 @@ pub(crate) fn best(golden: usize, node: usize, places: [Option<Flit>; 4]) -> Opt
 {
     let mut found = None;
     for (k, place) in places.iter().enumerate() {
-        found = better(golden, found, port(k), due(node, *place));
+        found = better(golden, found, Port::ALL[k], due(node, *place));
     }
     found
 }
@@ -69,7 +57,10 @@ pub(crate) fn best(golden: usize, node: usize, places: [Option<Flit>; 4]) -> Opt
 pub(crate) fn gap(places: [Option<Flit>; 4]) -> Option<Port>
     ensures { result ≡ is_gap (at places) }
 {
-    places.iter().position(|place| place.is_none()).map(port)
+    places
+        .iter()
+        .position(|place| place.is_none())
+        .map(|k| Port::ALL[k])
 }
 
 // The places with one of them changed.
@@ -102,11 +93,11 @@ pub(crate) fn wishes<L: Layout>(
 
 // The place in the table of slots that a node's port leads to.
 fn far<L: Layout>(layout: &L, node: usize, k: usize) -> usize
-    requires { node < (L.plan layout.now).nodes }
+    requires { (node < (L.plan layout.now).nodes) × (k < 4) }
     ensures is { result ≡ far_place (L.plan layout.now) node (port_of k) }
     ensures below { result < 256 }
 {
-    let to = layout.far_end(node, port(k));
+    let to = layout.far_end(node, Port::ALL[k]);
     4 * to.node + to.port.index()
 }
 

@@ -1,6 +1,4 @@
 // The record of a ticket that is taken.
-ghost use Rattle.std.specs.Prelude.{◌≤◌};
-
 mod methods;
 
 pub(crate) const WORDS: usize = 4;
@@ -14,5 +12,4 @@ pub(crate) struct Ticket {
     pub sent: u8,
     pub words: [u32; WORDS],
     pub received: [Option<u32>; WORDS],
-    ghost short: { size ≤ 4 },
 }

@@ -1,4 +1,4 @@
-// What the calls do to the tables. An element with a ghost field is copied out and put back: no proof is found of a `&mut` to it.
+// What the calls do to the tables. A batch has a ghost field, so it is copied out and put back: no proof is found of a `&mut` to it.
 ghost use Rattle.std.specs.Prelude.{◌≡◌, ◌*◌, ◌<◌, ◌≤◌, length, None, slice_index_or};
 ghost use Rattle.clock.specs.Epochs.{golden_ticket};
 ghost use Rattle.network.specs.Cycle.{in_slot_order};
@@ -66,10 +66,9 @@ impl Tables {
     {
         let t = usize::from(flit.ticket);
         if t < TICKETS
-            && let Some(mut packet) = self.tickets[t]
+            && let Some(packet) = &mut self.tickets[t]
         {
             packet.receive(flit.number, flit.word);
-            self.tickets[t] = Some(packet);
         }
     }
 
@@ -81,9 +80,14 @@ impl Tables {
         let mut line = self.waits[node];
         let ticket = line.first()?;
         let t = usize::from(ticket);
-        let mut packet = (*self.tickets.get(t)?)?;
-        let flit = packet.send(ticket, self.cycles);
-        self.tickets[t] = Some(packet);
+        if t >= TICKETS {
+            return None;
+        }
+        let cycle = self.cycles;
+        let Some(packet) = &mut self.tickets[t] else {
+            return None;
+        };
+        let flit = packet.send(ticket, cycle);
         if packet.sent == packet.size {
             line.remove_first();
             self.waits[node] = line;

@@ -1,10 +1,18 @@
 // What a ticket's record is asked and told.
-ghost use Rattle.std.specs.Prelude.{◌≡◌, ◌≤◌, length};
+ghost use Rattle.std.specs.Prelude.{◌≡◌, ◌≤◌, length, min};
 ghost use Rattle.network.specs.Runs.{over};
 ghost use Rattle.calls.specs.Records.{Packed, all_in, values, Receives, Sends};
 
 use super::{Ticket, WORDS};
 use fabric::parts::Flit;
+
+// Every one of the first places holds a word.
+fn all_received(received: &[Option<u32>; WORDS], places: usize) -> bool
+    requires { places ≤ 4 }
+    ensures { result ≡ all_in received.now places }
+{
+    received.iter().take(places).all(|word| word.is_some())
+}
 
 impl Ticket {
     pub(crate) fn new(destination: u8, words: &[u32]) -> Ticket
@@ -22,22 +30,28 @@ impl Ticket {
         }
     }
 
+    // How many places the words take. A ghost field that says `size ≤ 4` would keep the record from being lent in place.
+    fn places(&self) -> usize
+        ensures { result ≡ min self.now.size 4 }
+    {
+        usize::from(self.size).min(WORDS)
+    }
+
     // Every word of its packet is received.
     pub(crate) fn complete(&self) -> bool
-        ensures { result ≡ all_in self.now.received self.now.size }
+        ensures { result ≡ all_in self.now.received (min self.now.size 4) }
     {
-        let size = usize::from(self.size);
-        self.received.iter().take(size).all(|word| word.is_some())
+        all_received(&self.received, self.places())
     }
 
     // Writes the words received over the front of a memory.
     pub(crate) fn write(&self, memory: &mut [u32])
         requires { self.now.size ≤ length memory.old }
-        ensures { memory.new ≡ over (values self.now.received self.now.size) memory.old }
+        ensures { memory.new ≡ over (values self.now.received (min self.now.size 4)) memory.old }
     {
-        let size = usize::from(self.size);
+        let places = self.places();
         let words = self.received.map(|word| word.unwrap_or(0));
-        memory[..size].copy_from_slice(&words[..size]);
+        memory[..places].copy_from_slice(&words[..places]);
     }
 
     // Enters a word in its place.

@@ -1,7 +1,7 @@
 use Rattle.std.proofs.Common.{arith}
 use Rattle.switch.specs.Switches.{at}
 use Rattle.network.specs.Computed.{due}
-use Rattle.calls.proofs.Stepping.{best_all, best_step}
+use Rattle.calls.proofs.Stepping.{all_ports, best_all, best_step}
 use Rattle.calls.proofs.steps.best.Goals as goal
 
 pub returns : goal.returns
@@ -10,5 +10,5 @@ returns c =
 
 pub loop-k-preserved : goal.loop-k-preserved
 loop-k-preserved c =
-    best_step c.args.golden c.args.node c.loop-k.k c.args.places c.loop-k.found c.better-found.result c.port.result c.due.result (omega arith)
-    c.better-found.ensures c.loop-k.invariant c.port.ensures c.due.ensures
+    best_step c.args.golden c.args.node c.loop-k.k c.args.places c.loop-k.found c.better-found.result _ c.due.result (omega arith)
+    c.better-found.ensures c.loop-k.invariant (all_ports c.loop-k.k _ (omega arith)) c.due.ensures

@@ -12,12 +12,12 @@ returns-then-packet c =
     let u = c.in_ok-ticket.ticket in
     let long = length-map i.waits items in
     let first : Some u ≡ first_of xs = sym c.in_ok-ticket.was ∙ c.first.ensures ∙ ap first_of (sym (get_or-map items i.waits c.args.node _ [] (omega arith))) in
-    let there : get_or i.tickets c.from-t.result None ≡ Some c.in_ok-packet.packet = search rules in
+    let there : get_or i.tickets c.from-t.result None ≡ Some c.in-Some.packet = search rules in
     record {
       keeps = record { settings = refl; cycles = refl; register = refl; slots = refl };
       none = λ e. absurd (head_empty xs u first e);
       some = λ t ts r e is.
-          let_go i _ c.args.node u c.from-t.result t c.send-flit.result c.in_ok-packet.packet r c.send-flit.new.self c.from-t.ensures (head_some xs u first t ts e)
+          let_go i _ c.args.node u c.from-t.result t c.send-flit.result c.in-Some.packet r c.send-flit.new.self c.from-t.ensures (head_some xs u first t ts e)
           there is (omega arith) c.send-flit.ensures refl (λ no_more. absurd (no_more c.if-packet.true))
           (λ e. one_line i.waits c.args.node c.remove_first.new.self _ (drop 1) (omega arith) c.remove_first.ensures.held);
     }
@@ -29,11 +29,11 @@ returns-else-packet c =
     let u = c.in_ok-ticket.ticket in
     let long = length-map i.waits items in
     let first : Some u ≡ first_of xs = sym c.in_ok-ticket.was ∙ c.first.ensures ∙ ap first_of (sym (get_or-map items i.waits c.args.node _ [] (omega arith))) in
-    let there : get_or i.tickets c.from-t.result None ≡ Some c.in_ok-packet.packet = search rules in
+    let there : get_or i.tickets c.from-t.result None ≡ Some c.in-Some.packet = search rules in
     record {
       keeps = record { settings = refl; cycles = refl; register = refl; slots = refl };
       none = λ e. absurd (head_empty xs u first e);
       some = λ t ts r e is.
-          let_go i _ c.args.node u c.from-t.result t c.send-flit.result c.in_ok-packet.packet r c.send-flit.new.self c.from-t.ensures (head_some xs u first t ts e)
+          let_go i _ c.args.node u c.from-t.result t c.send-flit.result c.in-Some.packet r c.send-flit.new.self c.from-t.ensures (head_some xs u first t ts e)
           there is (omega arith) c.send-flit.ensures refl (λ no_more. refl) (λ e. absurd (c.if-packet.false e));
     }

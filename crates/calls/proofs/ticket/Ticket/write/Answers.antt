@@ -8,8 +8,8 @@ pub returns : goal.returns
 returns c =
     let xs = c.args.self.now.received in
     let ms = c.args.memory.now in
-    let n = c.from-size.result in
+    let n = c.places-places.result in
     let e : (i : ℕ) → i < 4 → get_or c.map-words.result i 0 ≡ unwrap_or (get_or xs i None) 0 = λ i h. let t = c.map-words.ensures.items.at i None 0 h in search rules in
     ap (λ ys. ys ++ drop n ms) (c.copy_from_slice.ensures.after ∙ values_upto xs c.map-words.result n (omega arith) (omega arith) (λ i h. e i (omega arith)))
     ∙ ap (λ k. values xs n ++ drop k ms) (sym (length_values xs n))
-    ∙ ap (λ k. over (values xs k) ms) c.from-size.ensures
+    ∙ ap (λ k. over (values xs k) ms) c.places-places.ensures
