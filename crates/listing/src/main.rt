@@ -15,9 +15,8 @@ fn main(rt: HostRuntime) -> anyhow::Result<()> {
     let mut sheet = Vec::new(rt.alloc());
     rt.stdin().take(MOST_READ).read_to_end(&mut sheet)?;
     let mut memory = vec![in rt.alloc(); 0u8; MEMORY]?;
-    let len = list(sheet.as_slice(), memory.as_mut_slice()).map_err(|_| anyhow!(
-        "the memory is too short"
-    ))?;
+    let answer = list(sheet.as_slice(), memory.as_mut_slice());
+    let len = answer.map_err(|_| anyhow!("the memory is too short"))?;
     memory.truncate(len);
     rt.stdout().write_all(memory.as_slice())?;
     Ok(())
