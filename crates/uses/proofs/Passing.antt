@@ -55,8 +55,11 @@ the_outcomes i j b ks os v = (as_computed (subst (λ (P : Settings). Exactly net
 abbrev no_event : Event
 no_event = record { cycle = 0; kind = In; ticket = 0; number = 0; node = 0; entered = 0 }
 
+abbrev pub blanks : Event → Queue Event
+blanks e = empty (e ∷ e ∷ e ∷ e ∷ e ∷ e ∷ e ∷ e ∷ [])
+
 abbrev line_0 : Queue Event
-line_0 = empty (no_event ∷ no_event ∷ no_event ∷ no_event ∷ no_event ∷ no_event ∷ no_event ∷ no_event ∷ [])
+line_0 = blanks no_event
 
 -- the caller's line after the newest call
 abbrev line_in : List Outcome → Queue Event
