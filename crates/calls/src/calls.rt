@@ -134,7 +134,7 @@ impl<L: Layout, S: Switch> Network<L, S> {
         Ok(size)
     }
 
-    // The flit behind a port of a node, if one is there.
+    // The flit behind a port of a node, if one is there. The port is a number, since one that does not exist is refused.
     pub fn look(&self, node: usize, port: usize) -> Result<Option<Flit>, Refusal>
         ensures promised { Promised (fabric_of L.plan S.turn self.now) self.now.inner self.now.inner (looks node port) (looking (shown result)) }
     {

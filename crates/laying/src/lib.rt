@@ -50,7 +50,7 @@ pub fn lay_cables<const RUN: u8>(nodes: u32, cables: &[Cable]) -> Result<Cabled,
     ensures { Laid RUN (Form.Cabled nodes) cables.now (reported plan_of result) }
 {
     let mut layout = Cabled::new();
-    // A match: inside a closure for `map_err` it is not known that what the refusal names is small.
+    // A match: a closure for `map_err` would need a clause of its own, for what `line_of` asks.
     match layout.cable(nodes as usize, cables) {
         Ok(()) => Ok(layout),
         Err(refusal) => Err(Fault {

@@ -2,14 +2,11 @@
 #![tactic(auto)]
 
 use anyhow::anyhow;
-use runner::list::list;
+use runner::list::{MEMORY, list};
 use std::io::{Read, Write};
 
 // One byte more than a sheet may have is enough to see that it is too long.
 const MOST_READ: u64 = 65537;
-
-// No listing is longer.
-const MEMORY: usize = 65536;
 
 fn main(rt: HostRuntime) -> anyhow::Result<()> {
     let mut sheet = Vec::new(rt.alloc());

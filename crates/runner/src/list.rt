@@ -23,7 +23,7 @@ use text::parts::Shape;
 use writer::Writer;
 
 // No listing is longer.
-const MEMORY: usize = 65536;
+pub const MEMORY: usize = 65536;
 
 const PACKETS: usize = 256;
 

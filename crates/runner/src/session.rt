@@ -16,7 +16,7 @@ pub(crate) struct Session<L, S> {
     pub nodes: usize,
     // the tickets of each node
     pub tickets: usize,
-    // where the packet of each ticket goes that is not free
+    // where the packet of each ticket goes that is not free: a network does not show it
     pub aims: [Option<usize>; TICKETS],
     pub tally: Tally,
 }

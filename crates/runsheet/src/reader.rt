@@ -14,10 +14,8 @@ use batch::Batch;
 use fabric::parts::Cable;
 use text::fault::Fault;
 use text::field::{Fields, find, is};
-use text::parts::{MOST_CABLES, Run, Shape};
+use text::parts::{MOST_BYTES, MOST_CABLES, Run, Shape};
 use text::rows as shared;
-
-const MOST_BYTES: usize = 65536;
 
 // What the next line has to be.
 #[derive(Clone, Copy)]
@@ -327,29 +325,23 @@ mod tests {
 
     #[test]
     fn lists(rt: HostRuntime) -> Result<(), Fail> {
-        match read(
+        let sheet = read(
             b"cabled 2\nswitch bless\nrun 1 2 8 1 9\ncables 2\n0 E 1 W\n1 N 0 S\npackets 1\n4 0 0 1 2 7 9\n",
-        ) {
-            Ok(sheet) => {
-                let cables = sheet.cables();
-                let packets = sheet.packets();
-                assert!(rt; cables.len() == 2 && packets.len() == 1);
-                assert_eq!(rt; cables[1].one.port, Port::N);
-                assert_eq!(rt; packets[0].words, [7, 9, 0, 0]);
-                Ok(())
-            }
-            Err(fault) => Err(Fail::new(fault)),
-        }
+        )?;
+        let cables = sheet.cables();
+        let packets = sheet.packets();
+        assert!(rt; cables.len() == 2 && packets.len() == 1);
+        assert_eq!(rt; cables[1].one.port, Port::N);
+        assert_eq!(rt; packets[0].words, [7, 9, 0, 0]);
+        Ok(())
     }
 
     #[test]
     fn long(rt: HostRuntime) -> Result<(), Fail> {
-        match read(&[b'\n'; 65537]) {
-            Ok(_) => Err(Fail::new("read")),
-            Err(fault) => {
-                assert_eq!(rt; fault.to_string(rt.alloc())?.as_str(), "fault sheet 15 0");
-                Ok(())
-            },
-        }
+        let Err(fault) = read(&[b'\n'; 65537]) else {
+            return Err(Fail::new("read"));
+        };
+        assert_eq!(rt; fault.to_string(rt.alloc())?.as_str(), "fault sheet 15 0");
+        Ok(())
     }
 }

@@ -9,10 +9,8 @@ use super::rows;
 use batch::Batch;
 use fabric::parts::Cable;
 use text::fault::Fault;
-use text::parts::{MOST_CABLES, Shape};
+use text::parts::{MOST_BYTES, MOST_CABLES, Shape};
 use text::rows as shared;
-
-const MOST_BYTES: usize = 65536;
 
 // How many cables follow: a mesh has none, and no line that says so.
 fn count(lines: &mut Lines, shape: Shape) -> Result<usize, Fault>
@@ -107,25 +105,19 @@ mod tests {
 
     #[test]
     fn cables(rt: HostRuntime) -> Result<(), Fail> {
-        match read(b"cabled 2\nrun 1 2 8 1 0\ncables 2\n0 E 1 W\n1 N 0 S\n") {
-            Ok(question) => {
-                let cables = question.cables();
-                assert!(rt; cables.len() == 2);
-                assert_eq!(rt; cables[1].one.port, Port::N);
-                Ok(())
-            }
-            Err(fault) => Err(Fail::new(fault)),
-        }
+        let question = read(b"cabled 2\nrun 1 2 8 1 0\ncables 2\n0 E 1 W\n1 N 0 S\n")?;
+        let cables = question.cables();
+        assert!(rt; cables.len() == 2);
+        assert_eq!(rt; cables[1].one.port, Port::N);
+        Ok(())
     }
 
     #[test]
     fn shown(rt: HostRuntime) -> Result<(), Fail> {
-        match read(b"mesh 3 2\n") {
-            Ok(_) => Err(Fail::new("read")),
-            Err(fault) => {
-                assert_eq!(rt; fault.to_string(rt.alloc())?.as_str(), "fault sheet 16 2");
-                Ok(())
-            },
-        }
+        let Err(fault) = read(b"mesh 3 2\n") else {
+            return Err(Fail::new("read"));
+        };
+        assert_eq!(rt; fault.to_string(rt.alloc())?.as_str(), "fault sheet 16 2");
+        Ok(())
     }
 }

@@ -39,7 +39,7 @@ impl<'a> Writer<'a> {
         self.bytes(s);
     }
 
-    // A number in decimal.
+    // A number in decimal. By hand: for Display this would have to be a fmt::Write, each write of which can fail, though room is measured first.
     pub(super) fn number(&mut self, n: u32)
         requires { length (decimal n) ≤ length (beyond self.old) }
         ensures { Puts self.old (decimal n) self.new }
