@@ -28,12 +28,12 @@ length_values xs ℕ.zero = refl
 length_values xs (ℕ.suc n) = length-append (values xs n) _ ∙ ap (λ k. k + 1) (length_values xs n) ∙ add-one n
 
 pub head_some : (xs : List ℕ) (u : ℕ) → Some u ≡ first_of xs → (t : ℕ) (ts : List ℕ) → xs ≡ t ∷ ts → t ≡ u
-head_some [] u e t ts q = let z : ◌≡◌ {A = ℕ} 0 1 = cc in absurd (omega arith)
+head_some [] u e t ts q = cc
 head_some (x ∷ xs) u e t ts q = cc
 
 pub head_empty : (xs : List ℕ) (u : ℕ) → Some u ≡ first_of xs → xs ≡ [] → ⊥
-head_empty [] u e q = let z : ◌≡◌ {A = ℕ} 0 1 = cc in omega arith
-head_empty (x ∷ xs) u e q = let z : ◌≡◌ {A = ℕ} 0 1 = cc in omega arith
+head_empty [] u e q = cc
+head_empty (x ∷ xs) u e q = cc
 
 -- the word of a flit goes into the record that is there
 pub took_in : (i j : Tables) (f : Flit) (p q : Ticket) → Keeps i j → j.waits ≡ i.waits → get_or i.tickets f.ticket None ≡ Some p → Receives p q f.number f.word →

@@ -80,7 +80,7 @@ length_heads cs (suc n) = ap suc (length_heads cs n)
 
 -- what is in a list has what all in it have
 among : (P : ℕ → Type 0) (xs : List ℕ) → AllByRecursion P xs → (q : ℕ) → list_any (eqb q) xs ≡ true → P q
-among P [] h q e = absurd (let z : ◌≡◌ {A = ℕ} 0 1 = cc in omega arith)
+among P [] h q e = cc
 among P (x ∷ xs) h q e =
     ⊎_elim
     (λ t. subst P (sym (eqb-true q x t)) h.0)

@@ -18,7 +18,7 @@ use Rattle.limit.specs.Answers.{limited, OffWithin, Answered}
 -- where limits are answered, set-up accepts the settings
 granted_so : {A : Type 0} (f : Unit {0} → A) (v : Verdict (Unit {0})) (a : A) → granted a ≡ granting f v → v ≡ granted tt
 granted_so f (granted x) a e = refl
-granted_so f (refused k vs) a e = absurd (let z : ◌≡◌ {A = ℕ} 0 1 = cc in let n : ⊥ = omega arith in n)
+granted_so f (refused k vs) a e = cc
 
 -- the limit is that of the promise on runs
 pub off_within : (p : Plan) (r : Run) (l : Limits) → Lawful p →
@@ -29,7 +29,7 @@ off_within p r l law e turn sw run s led f n entered late =
   where
     is_latest : (v : Verdict (Unit {0})) → granted l ≡ granting (λ _. limits_of p (settings_of r)) v → l.latest ≡ latest p (settings_of r)
     is_latest (granted x) e = cc
-    is_latest (refused k vs) e = absurd (let z : ◌≡◌ {A = ℕ} 0 1 = cc in let n : ⊥ = omega arith in n)
+    is_latest (refused k vs) e = cc
 
 module _ (bs : List ℕ) (q : Asked) (read : (length bs ≤ 65536) × Formed 128 q × (bs ≡ asked_text q)) where
   pub no_layout : (x : ℕ × Layer × ℕ) → Laid 2 q.shape q.cables (faults x) → Answered bs (faults x)

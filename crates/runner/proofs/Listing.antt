@@ -68,7 +68,7 @@ module _ (text memory : List ℕ) (w : Writer) (none : listed w ≡ []) (all : b
         (ok_shown r x.0, x.1)
 
     pub no_room : (y : Refusal) → r ≡ Err y → ⊥
-    no_room y e = let a = sym e ∙ wrote.0 in let z : ◌≡◌ {A = ℕ} 0 1 = cc in omega arith
+    no_room y e = let a = sym e ∙ wrote.0 in cc
 
     pub fault_out : (n : ℕ) → Faulted text f → n ≡ length (listed u) → WrittenOut text memory (granted n) u.memory.now
     fault_out n h e =

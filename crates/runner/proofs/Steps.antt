@@ -389,7 +389,7 @@ module _ (F : Fabric) (P : Settings) (law : Lawful F.plan) {M : List ℕ} {i : T
   cycle_granted_here {q} h room (cycle_refused e) =
       let v : cycle_verdict F P s q ≡ granted tt =
       cond-false _ _ _ (lt-leb 1073741823 s.cycles (omega arith)) ∙ cond-false _ _ _ (le-ltb (free_places q) (2 * F.plan.nodes) (let n = law.few_nodes in omega arith)) in
-      let z : ◌≡◌ {A = ℕ} 0 1 = cc in omega arith
+      cc
 
   pub not_refused : {j : Tables} {q q' : Queue Event} {k : ℕ} {vs : List ℕ} → s.cycles < 65536 → 128 ≤ free_places q → Promised F i j (cycle q) (cycling (refused k vs) q') → ⊥
   not_refused h room p = cycle_granted_here h room (moved p).serves
@@ -419,7 +419,7 @@ module _ (F : Fabric) (P : Settings) (law : Lawful F.plan) {M : List ℕ} {i : T
   busy g d h e = go (free g s.log) refl (sym (a.aimed g h) ∙ e)
     where
       go : (b : Bool) → free g s.log ≡ b → cond b None (Some (aim (packet g s.log))) ≡ Some d → Busy g d
-      go true f x = absurd (let z : ◌≡◌ {A = ℕ} 0 1 = cc in let n : ⊥ = omega arith in n)
+      go true f x = cc
       go false f x = record { taken = f; goes = cc }
 
   pub not_busy : (g : ℕ) → g < all_tickets F.plan P → get_or aims g None ≡ None → complete g s.log ≡ false
@@ -427,7 +427,7 @@ module _ (F : Fabric) (P : Settings) (law : Lawful F.plan) {M : List ℕ} {i : T
     where
       go : (b : Bool) → free g s.log ≡ b → cond b None (Some (aim (packet g s.log))) ≡ None → complete g s.log ≡ false
       go true f x = rw f refl
-      go false f x = absurd (let z : ◌≡◌ {A = ℕ} 0 1 = cc in let n : ⊥ = omega arith in n)
+      go false f x = cc
 
   aimed_collect : (g d : ℕ) (ws : List ℕ) → g < all_tickets F.plan P → Aimed (all_tickets F.plan P) (set aims g None) (collected g d ws ∷ s.log)
   aimed_collect g d ws h x l = go (cases_eq x g)
@@ -564,4 +564,4 @@ module _ (F : Fabric) (P : Settings) (law : Lawful F.plan) {M : List ℕ} {i : T
           ∙ cond-false _ _ _ (or_from _ _ (not_from_true _ whole) (not_from_true _ (eq-eqb (aim (packet u s.log)) d there)))
           ∙ cond-false _ _ _ (le-ltb (length memory) (size (packet u s.log)) fits) in
           let x = sym v ∙ did.0 in
-          absurd (let z : ◌≡◌ {A = ℕ} 0 1 = cc in let q : ⊥ = omega arith in q)
+          (cc)

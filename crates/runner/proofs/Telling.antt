@@ -21,7 +21,7 @@ use Rattle.runner.proofs.Pages.{text_append, text_one}
 
 pub ok_shown : (r : Result (Unit {0}) Refusal) → shown r ≡ granted tt → r ≡ Ok tt
 ok_shown (Ok tt) e = refl
-ok_shown (Err x) e = absurd (let z : ◌≡◌ {A = ℕ} 0 1 = cc in let n : ⊥ = omega arith in n)
+ok_shown (Err x) e = cc
 
 map_both : (a b : List Event) → map line_of (a ++ b) ≡ map line_of a ++ map line_of b
 map_both [] b = refl

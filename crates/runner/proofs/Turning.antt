@@ -17,15 +17,11 @@ use Rattle.runner.specs.Listing.{line_of, Collects, Turns}
 use Rattle.runner.specs.Listing.Offers.{none as none_offered}
 use Rattle.runner.specs.Listing.Collects.{none as none_collected}
 use Rattle.runner.specs.Listing.Turns.{begun, one_more}
-use Rattle.runner.specs.Progress.{Stands, Offered, NoneDue, DueFrom, Due, Left, Cycled, Tried, CollectedFrom, Collected, TurnedFrom, Turned, Through}
+use Rattle.runner.specs.Progress.{Stands, Offered, DueFrom, Due, Left, Cycled, Tried, CollectedFrom, Collected, TurnedFrom, Turned, Through}
 
 -- the packets that are left
 pub left_due : (c : ℕ) (p : Packet) (rest : List Packet) → p.cycle ≡ c → Left c (p ∷ rest) → Left c rest
 left_due c p rest e l = record { rising = subst (λ (k : ℕ). Rising k rest) e l.rising.1; sendable = l.sendable.1 }
-
-pub left_later : (c : ℕ) (ps : List Packet) → NoneDue c ps → Left c ps → Left (c + 1) ps
-left_later c [] n l = record { rising = tt; sendable = tt }
-left_later c (p ∷ rest) n l = record { rising = (let h = l.rising.0 in omega (arith, n), l.rising.1); sendable = l.sendable }
 
 same_lines : {A B : Type 0} {F : Fabric} {P : Settings} {M : List ℕ} {x : Session A B} {w : Writer} {r : State} {es : List Event} {ls ls' : List (List Field)} {o o' : ℕ} →
     ls ≡ ls' → o ≡ o' → Stands F P M x w r ls es o → Stands F P M x w r ls' es o'

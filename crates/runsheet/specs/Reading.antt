@@ -1,5 +1,5 @@
 -- How far the reader has come, and what may come next.
-use Rattle.std.specs.Prelude.{◌≡◌, ℕ, ◌+◌, ◌<◌, ◌≤◌, cond, ◌⊎◌, List, [], ◌∷◌, ◌++◌, map, length, take, Result, MatchResult, nat_lt}
+use Rattle.std.specs.Prelude.{◌≡◌, ℕ, ◌+◌, ◌<◌, ◌≤◌, cond, ◌⊎◌, List, [], ◌∷◌, ◌++◌, map, length, Result, MatchResult, nat_lt}
 use Rattle.std.specs.List.{AllByRecursion}
 use Rattle.batch.specs.Items.{items}
 use Rattle.fabric.specs.declared.parts.Cable.{Cable as Wire}

@@ -58,7 +58,7 @@ pub parted_not_none : (b : ℕ) (s : List ℕ) → parted b s ≡ [] → ⊥
 parted_not_none b s e =
     let k = parted_some b s in
     let f : k.0 ∷ k.1 ≡ [] = sym k.2 ∙ e in
-    let z : ◌≡◌ {A = ℕ} 0 1 = cc in omega arith
+    cc
 
 -- the parts of what is left of a line
 abbrev pub left : Option (Bor (List ℕ)) → List (List ℕ)

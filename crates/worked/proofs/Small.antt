@@ -1,5 +1,5 @@
 -- The run by computing; each fault against the one state or outcome that there is.
-use Rattle.std.proofs.Common.{◌≡◌, ℕ, [], length, Some, None, sym, refl, ap, ◌∙◌, subst, arith}
+use Rattle.std.proofs.Common.{◌≡◌, [], length, Some, None, sym, refl, ap, ◌∙◌, subst, arith}
 use Rattle.fabric.specs.declared.parts.Port.TheVariants.{E, W}
 use Rattle.fabric.specs.declared.parts.Flit.{Flit}
 use Rattle.fabric.specs.Layouts.{Lawful}
@@ -39,7 +39,7 @@ same_word : (f g : Flit) → Some f ≡ Some g → f.word ≡ g.word
 same_word f g e = let d : f ≡ g = cc in ap (λ (x : Flit). x.word) d
 
 one_answer : (f : Flit) (o : Outcome) → o ≡ looking (granted None) → o ≡ looking (granted (Some f)) → ⊥
-one_answer f o a b = let z : ◌≡◌ {A = ℕ} 0 1 = cc in omega arith
+one_answer f o a b = cc
 
 pub excluded : Excluded
 unfolding taken left entering ready handing arriving done
@@ -52,7 +52,7 @@ excluded = record {
       omega arith;
   refuses_all = λ k vs r v.
       let e = (served_one net settings law fresh v).0 in
-      let z : ◌≡◌ {A = ℕ} 0 1 = cc in omega arith;
+      cc;
   looks_alike = λ o h.
       one_answer seven o
       (served_one net settings law fresh (h [] fresh (led net settings law []))).0

@@ -114,12 +114,12 @@ spread_take (n ∷ ns) (suc i) = let h = spread_take ns i in omega arith
 -- whether the room has so many bytes
 pub too_few : {room taken : ℕ} (r : Option ℕ) → is_some r ≡ false → Leaves room taken r → room < taken
 too_few None e h = h
-too_few (Some x) e h = absurd (let z : ◌≡◌ {A = ℕ} 0 1 = cc in let n : ⊥ = omega arith in n)
+too_few (Some x) e h = cc
 
 pub enough : {room taken : ℕ} (r : Option ℕ) → is_some r ≡ true → Leaves room taken r → taken ≤ room
-enough None e h = absurd (let z : ◌≡◌ {A = ℕ} 0 1 = cc in let n : ⊥ = omega arith in n)
+enough None e h = cc
 enough (Some x) e h = omega arith
 
 pub no_memory : (r : Option ℕ) (x : Refusal) → ◌≡◌ {A = Result ℕ Refusal} (Err x) (ok_or r Memory) → false ≡ is_some r → x ≡ Memory
 no_memory None x e h = cc
-no_memory (Some n) x e h = absurd (let z : ◌≡◌ {A = ℕ} 0 1 = cc in let k : ⊥ = omega arith in k)
+no_memory (Some n) x e h = cc

@@ -2,10 +2,9 @@ use Rattle.std.proofs.Common.{length, ap, arith, rules}
 use Rattle.std.proofs.lemmas.List.{nil_from_length}
 use Rattle.std.proofs.lemmas.Result.{err_from_is_err_and}
 use Rattle.runsheet.specs.Sheets.{Refused}
-use Rattle.runsheet.specs.Reading.{draft, lines_read, entry_line}
+use Rattle.runsheet.specs.Reading.{draft}
 use Rattle.text.proofs.Exits.{err_at}
 use Rattle.runsheet.proofs.Moves.{short}
-use Rattle.text.proofs.Stopping.{onward, shorter}
 use Rattle.runsheet.proofs.Stopped.{refused, missing, finished}
 use Rattle.runsheet.proofs.reader.read.Goals as goal
 
@@ -16,15 +15,6 @@ returns-in_err-rest c =
     let i = c.loop-rest.invariant in
     err_at _ (Refused bs) _ _ (err_from_is_err_and _ c.from_residual.ensures.1)
     (refused (draft r) bs c.loop-rest.rest.now i.0.valid i.1 (omega arith) _ r.line i.0.line c.in_err-rest.ensures (λ z. omega (arith, ap length z, c.loop-rest-test.true)))
-
-pub loop-rest-smaller : goal.loop-rest-smaller
-loop-rest-smaller c = let h = c.in_ok-rest.ensures in shorter (entry_line h.0) _ _ h.2
-
-pub loop-rest-preserved : goal.loop-rest-preserved
-loop-rest-preserved c =
-    let h = c.in_ok-rest.ensures in
-    let i = c.loop-rest.invariant in
-    (h.1.sound, onward (lines_read (draft c.loop-rest.reader)) _ (entry_line h.0) c.args.bytes.now c.loop-rest.rest.now _ i.1 h.1.lines h.2)
 
 pub overflow_add-reader : goal.overflow_add-reader
 overflow_add-reader c = let h = short _ c.loop-rest.invariant.0 in search (rules, h)

@@ -8,12 +8,6 @@ use Rattle.text.proofs.Exits.{passed, after}
 use Rattle.runsheet.proofs.Payload.{figures, figures_only, figures_end, same_front}
 use Rattle.runsheet.proofs.rows.packet.Goals as goal
 
-pub returns-in_err-cycle : goal.returns-in_err-cycle
-returns-in_err-cycle c =
-    passed packet_line (λ p. Sized p × (c.args.last ≤ p.cycle)) _ _ _ _ (err_from_is_err_and _ c.from_residual.ensures.1)
-    c.in_err-cycle.ensures.words.0
-    (λ x fits p e. c.in_err-cycle.ensures.words.1 x.cycle (decimal x.node ∷ decimal x.own ∷ decimal x.destination ∷ decimal x.count ∷ figures (payload x)) fits.0 e)
-
 pub returns-in_err-node : goal.returns-in_err-node
 returns-in_err-node c =
     passed packet_line (λ p. Sized p × (c.args.last ≤ p.cycle)) _ _ _ _ (err_from_is_err_and _ c.from_residual-in_err-node.ensures.1)

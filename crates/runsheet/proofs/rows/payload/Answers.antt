@@ -1,10 +1,9 @@
-use Rattle.std.proofs.Common.{◌≡◌, ◌+◌, ◌<◌, ◌++◌, map, length, get_or, take, drop, sym, ap, ◌∙◌, arith}
-use Rattle.std.proofs.lemmas.List.{length-set}
+use Rattle.std.proofs.Common.{◌≡◌, ◌+◌, ◌++◌, map, length, get_or, take, drop, sym, ap, ◌∙◌, arith}
 use Rattle.std.proofs.lemmas.Result.{err_from_is_err_and}
 use Rattle.text.specs.Faults.{ill_formed}
 use Rattle.text.specs.Texts.{number}
 use Rattle.text.proofs.Exits.{opened}
-use Rattle.runsheet.proofs.Payload.{figures, figures_more, fits_more, figures_next, fits_at}
+use Rattle.runsheet.proofs.Payload.{figures, figures_next, fits_at}
 use Rattle.runsheet.proofs.rows.payload.Goals as goal
 
 pub returns-in_err-words : goal.returns-in_err-words
@@ -22,17 +21,3 @@ returns-in_err-words c =
           (figures_next xs c.loop-i.words k i _ more c.loop-i-test.true (omega arith) (omega (arith, inv.2)) (sym inv.0 ∙ e)));
       line = c.in_err-words.ensures.line ∙ inv.3;
     }
-
-pub loop-i-preserved : goal.loop-i-preserved
-loop-i-preserved c =
-    let i = c.loop-i.i in
-    let ns = c.loop-i.words in
-    let n = c.in_ok-words.field-0 in
-    let inv = c.loop-i.invariant in
-    let h = c.in_ok-words.ensures in
-    let l : i < length ns = omega (arith, inv.2) in (
-      figures_more _ ns i n _ _ l inv.0 h.words.1,
-      fits_more ns i n l h.words.0 inv.1,
-      length-set ns i n ∙ inv.2,
-      h.line ∙ inv.3,
-    )

@@ -1,9 +1,8 @@
-use Rattle.std.proofs.Common.{◌≡◌, ◌+◌, ◌<◌, map, refl, ◌∷◌, [], ◌++◌, length, IsOk, ap, sym, subst, ◌∙◌, arith}
+use Rattle.std.proofs.Common.{◌+◌, ◌<◌, map, length, ap, sym, subst, ◌∙◌, arith}
 use Rattle.std.proofs.lemmas.List.{length_push}
 use Rattle.std.proofs.lemmas.Result.{err_from_is_err_and}
-use Rattle.fabric.specs.declared.parts.Cable.{Cable}
 use Rattle.batch.specs.Items.{items}
-use Rattle.batch.proofs.Rooms.{joined_room, answer_room}
+use Rattle.batch.proofs.Rooms.{joined_room}
 use Rattle.text.specs.Texts.{Any}
 use Rattle.text.specs.Faults.{ill_formed}
 use Rattle.text.specs.Lines.{cable_line}
@@ -28,9 +27,6 @@ returns-in_err-cable c =
     let h = c.in_err-cable.ensures in
     err_at _ (Unwired c.args.count c.args.lines.now) _ _ (err_from_is_err_and _ c.from_residual-in_err-cable.ensures.1)
     (unwired c.args.lines.now c.loop.lines (items c.loop.cables) inv.0 _ _ (omega (arith, inv.2)) inv.1 (h.0 ∙ ap ill_formed n.1) (other_line cable_line Any _ tidy_cable _ _ n.0 h.1))
-
-pub unwrap-requires : goal.unwrap-requires
-unwrap-requires c = subst IsOk (sym (c.push.ensures.answer ∙ answer_room 128 (items c.loop.cables) _ (omega (arith, c.loop.invariant.2)))) refl
 
 pub loop-preserved : goal.loop-preserved
 loop-preserved c =

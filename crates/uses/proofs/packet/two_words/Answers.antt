@@ -1,4 +1,4 @@
-use Rattle.std.proofs.Common.{◌≡◌, ℕ, List, Ok, rules, sym, refl, ap, ◌∙◌, arith}
+use Rattle.std.proofs.Common.{ℕ, List, Ok, rules, sym, refl, ap, ◌∙◌}
 use Rattle.fabric.specs.Refusals.{shown}
 use Rattle.fabric.specs.Verdicts.{Verdict}
 use Rattle.network.specs.Computed.{taken, left, entering, ready, handing, arriving, done}
@@ -30,4 +30,4 @@ returns-in_err-collect c =
     (c.cycle-3.ensures.promised, c.cycle-3.ensures.parts)
     (c.collect.ensures.promised, c.collect.ensures.parts) refl in
     let e = sym (ap shown c.in_err-collect.was) ∙ ap (λ (z : Verdict ℕ × List ℕ). z.0) x in
-    absurd (let z : ◌≡◌ {A = ℕ} 0 1 = cc in omega arith)
+    (cc)

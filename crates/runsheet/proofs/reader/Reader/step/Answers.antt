@@ -1,21 +1,11 @@
-use Rattle.std.proofs.Common.{◌+◌, ◌<◌, length, refl, inl, inr, arith, rules}
+use Rattle.std.proofs.Common.{◌+◌, ◌<◌, length, refl, inl, inr, arith}
 use Rattle.std.proofs.lemmas.Result.{err_from_is_err_and}
 use Rattle.runsheet.specs.Reading.{draft, entry_line, Suits, Refuses}
 use Rattle.text.proofs.Exits.{err_at}
-use Rattle.runsheet.proofs.Moves.{short}
 use Rattle.text.proofs.Stopping.{lined, is_line, unended, no_line, other_line}
 use Rattle.runsheet.proofs.Apart.{tidy_entry}
 use Rattle.runsheet.proofs.Sections.{unlike}
 use Rattle.runsheet.proofs.reader.Reader.step.Goals as goal
-
-pub overflow_add-self : goal.overflow_add-self
-overflow_add-self c = let h = short _ c.requires in search (rules, h)
-
-pub overflow_add-self-2 : goal.overflow_add-self-2
-overflow_add-self-2 c = let h = short _ c.requires in search (rules, h)
-
-pub entry-requires : goal.entry-requires
-entry-requires c = short _ c.requires
 
 pub returns-then-end-rest : goal.returns-then-end-rest
 returns-then-end-rest c =
