@@ -29,6 +29,7 @@ pub(crate) struct Spans {
     pub(crate) reach: u8,
 }
 
+// Each step asks that the node exists: a type for a node's number would be opened at each index.
 impl Wiring {
     // Whether the port leads to a node of this level.
     fn leads_to(&self, row: &Levels, node: usize, port: Port, level: u8) -> bool
@@ -62,6 +63,7 @@ impl Wiring {
         ensures { (u : ℕ) → u < self.now.nodes → slice_index_or result u None ≡ again (next_at self.now.ends) (λ v. slice_index_or before.now v None) level u }
     {
         let mut row = *before;
+        // by number, as all loops over nodes
         for node in 0..self.nodes {
             row[node] = self.raised(before, node, level);
         }

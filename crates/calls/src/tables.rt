@@ -9,7 +9,7 @@ use fabric::parts::Flit;
 mod methods;
 mod work;
 
-// A node goes by its number, as in a layout. A type of its own would be opened at each index: the steps ask `node < 64` instead.
+// A node and a ticket go by their numbers, as in a layout. Types of their own would be opened at each index: the steps ask `node < 64` instead.
 pub(crate) const NODES: usize = 64;
 
 pub(crate) const SLOTS: usize = 256;

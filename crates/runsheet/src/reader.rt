@@ -231,6 +231,7 @@ mod tests {
     use std::test::Fail;
 
     // The number and the line by which the text is refused, or zeros where it is read.
+    // Also in the tests of the other reader: a crate lends no tests.
     fn refused(text: &str) -> (u8, u32) {
         match read(text.as_bytes()) {
             Err(fault) => (fault.refusal.number(), fault.line),

@@ -27,6 +27,7 @@ pub fn is(word: &[u8], fixed: &[u8]) -> bool
 }
 
 // What is left of line `line` to read: nothing once its last field is read.
+// That the line's number stays is a clause of each method, as of a call by `&mut` nothing else says it.
 #[derive(Drop)]
 pub struct Fields<'a> {
     rest: Option<&'a [u8]>,
