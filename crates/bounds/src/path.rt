@@ -1,5 +1,5 @@
 // The way of a lone flit.
-ghost use Rattle.std.specs.Prelude.{◌≡◌, ◌<◌, IfOk};
+ghost use Rattle.std.specs.Prelude.{◌<◌, IfOk};
 ghost use Rattle.bounds.specs.Ways.{Way, Farthest, FarthestFrom};
 
 use fabric::layout::Layout;

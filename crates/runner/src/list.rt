@@ -22,7 +22,7 @@ use text::fault::Fault;
 use text::parts::Shape;
 use writer::Writer;
 
-// No listing is longer.
+// No listing is longer; a shorter memory is refused.
 pub const MEMORY: usize = 65536;
 
 const PACKETS: usize = 256;

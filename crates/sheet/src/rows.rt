@@ -1,5 +1,5 @@
 // The lines of a question, by their first words.
-ghost use Rattle.std.specs.Prelude.{◌≡◌, ◌∷◌, codes};
+ghost use Rattle.std.specs.Prelude.{◌∷◌, codes};
 ghost use Rattle.text.specs.Fields.{words, Reads};
 ghost use Rattle.text.specs.Texts.{Any};
 ghost use Rattle.text.specs.Lines.{shape_line, run_line, Brief, cables_line};

@@ -4,7 +4,7 @@ ghost use Rattle.switch.specs.Ranks.{rank_of, rank_at, gives_way};
 
 use fabric::parts::Flit;
 
-// The highest first.
+// The lesser goes ahead.
 #[derive(Clone, Copy, PartialEq, Eq, PartialOrd, Ord)]
 pub enum Rank {
     // with the flit's number: the lower goes ahead

@@ -1,5 +1,5 @@
 // A loop of cycles.
-ghost use Rattle.std.specs.Prelude.{◌≡◌, List};
+ghost use Rattle.std.specs.Prelude.{List};
 ghost use Rattle.calls.specs.Networks.{fabric_of, SameParts};
 ghost use Rattle.network.specs.Cycle.{State};
 ghost use Rattle.network.specs.Runs.{Call};

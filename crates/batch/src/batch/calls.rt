@@ -1,11 +1,15 @@
 // Values join a batch at the end, and leave it at the front.
-ghost use Rattle.std.specs.Prelude.{◌≡◌, ◌≤◌, [], length, drop};
+ghost use Rattle.std.specs.Prelude.{⊤, ◌≡◌, ◌≤◌, [], length, drop};
 ghost use Rattle.batch.specs.Items.{items, first_of, joined, put_answer};
 
 use super::Batch;
 use std::alloc::AllocError;
 
 impl<T: Copy, const N: usize> Clone for Batch<T, N> {
+    ghost is_clone = { λ x y. y ≡ x };
+
+    ghost is_infallible = { λ _. ⊤ };
+
     fn clone(&self) -> Result<Batch<T, N>, AllocError> {
         Ok(*self)
     }

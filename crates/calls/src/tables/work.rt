@@ -1,5 +1,5 @@
 // What a node ejects and injects.
-ghost use Rattle.std.specs.Prelude.{◌≡◌, ◌<◌};
+ghost use Rattle.std.specs.Prelude.{◌<◌};
 ghost use Rattle.line.specs.Lines.{queue_of, SameLender};
 ghost use Rattle.calls.specs.Midway.{TakesOff, Enters};
 
