@@ -7,7 +7,7 @@ pub(crate) const WORDS: usize = 4;
 #[derive(Clone, Copy)]
 pub(crate) struct Ticket {
     pub destination: u8,
-    // how many words it has: the length of both arrays below, which two batches would hold twice
+    // how many words it has, and so how many places of both arrays below; `received` fills in any order, so it is no batch
     pub size: u8,
     pub sent: u8,
     pub words: [u32; WORDS],

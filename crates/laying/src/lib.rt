@@ -3,7 +3,6 @@
 #![tactic(auto)]
 
 ghost use Rattle.std.specs.Prelude.{◌≡◌, ℕ, ◌≤◌, [], slice_index};
-ghost use Rattle.fabric.specs.Meshes.{mesh_plan};
 ghost use Rattle.fabric.specs.Refusals.{number, numbered};
 ghost use Rattle.cabled.specs.Plans.{plan_of};
 ghost use Rattle.text.specs.declared.fault.Layer.TheVariants.{Network};
@@ -14,6 +13,7 @@ ghost use Rattle.laying.specs.Reports.{reported};
 
 use bounds::settings::Settings;
 use cabled::cabled::Cabled;
+use fabric::layout::Layout;
 use fabric::mesh::Mesh;
 use fabric::parts::Cable;
 use fabric::refusal::Refusal;
@@ -36,7 +36,7 @@ fn line_of<const RUN: u8>(refusal: Refusal) -> u32
 }
 
 pub fn lay_mesh(width: u32, height: u32) -> Result<Mesh, Fault>
-    ensures { (run : ℕ) → Laid run (Form.Mesh width height) [] (reported (λ m. mesh_plan m.width m.height) result) }
+    ensures { (run : ℕ) → Laid run (Form.Mesh width height) [] (reported ⟦<Mesh as Layout>⟧.plan result) }
 {
     Mesh::new(width as usize, height as usize).map_err(|refusal| Fault {
         refusal,
@@ -61,6 +61,7 @@ pub fn lay_cables<const RUN: u8>(nodes: u32, cables: &[Cable]) -> Result<Cabled,
     }
 }
 
+// By hand: neither type is of this crate, so no `From` can stand here.
 pub fn settings(run: Run) -> Settings
     ensures { result ≡ settings_of run }
 {

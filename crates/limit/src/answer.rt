@@ -55,10 +55,10 @@ mod tests {
 
     // The fault's line, or nothing where there is none.
     fn fault_of(rt: &HostRuntime, text: &str) -> Result<String, Fail> {
-        match reply(text.as_bytes()) {
-            Ok(_) => Ok(String::new(rt.alloc())),
-            Err(fault) => Ok(format!(in rt.alloc(); "{fault}")?),
-        }
+        let Err(fault) = reply(text.as_bytes()) else {
+            return Ok(String::new(rt.alloc()));
+        };
+        Ok(format!(in rt.alloc(); "{fault}")?)
     }
 
     #[test]

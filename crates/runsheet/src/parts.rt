@@ -12,7 +12,7 @@ pub enum SwitchKind {
 }
 
 // A planned packet: when it is offered and by whom, and its words, the first `count` of four.
-// No batch: callers and a test name the four places and the count.
+// No batch: its fields are public, and a test's value names the four places.
 #[derive(Clone, Copy, PartialEq, Eq, Debug, Default)]
 pub struct Packet {
     pub cycle: u32,

@@ -80,7 +80,7 @@ impl Reader {
         Reader {
             section: Section::Layout,
             line: 0,
-            // a blank until its line is read, as all that follows
+            // a blank until its line is read, as all that follows; no default is derived for a variant with fields
             shape: Shape::Cabled { nodes: 0 },
             kind: SwitchKind::default(),
             run: Run::default(),

@@ -15,7 +15,7 @@ use text::rows::count;
 
 const MOST_WORDS: u32 = 4;
 
-// The next field, the name of a kind of switch.
+// The next field, the name of a kind of switch. Compared with fixed byte strings, a form of the project.
 fn kind(fields: &mut Fields) -> Result<SwitchKind, Fault>
     ensures words { MatchResult result (λ k. words fields.old ≡ kind_word k ∷ words fields.new) (λ f. (told f ≡ ill_formed fields.old.line) × ((k : Kind) (ws : List (List ℕ)) → words fields.old ≢ kind_word k ∷ ws)) }
     ensures line { fields.new.line ≡ fields.old.line }

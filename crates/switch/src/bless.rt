@@ -29,6 +29,7 @@ fn is_outranked(first: Option<Flit>, second: Option<Flit>, golden: usize) -> boo
 }
 
 // The slots that wait to be served, under a golden ticket.
+// The flags stand beside the places, since a slot that holds no flit waits too and takes a port.
 #[derive(Clone, Copy)]
 struct Round {
     places: [Option<Flit>; 4],

@@ -65,7 +65,7 @@ impl<'a> Fields<'a> {
         number(word, self.line)
     }
 
-    // The next field, a port's letter.
+    // The next field, a port's letter. Compared with fixed byte strings, a form of the project.
     pub fn port(&mut self) -> Result<Port, Fault>
         ensures words { MatchResult result (λ p. words self.old ≡ letter p ∷ words self.new) (λ f. (told f ≡ ill_formed self.old.line) × ((p : Side) (ws : List (List ℕ)) → words self.old ≢ letter p ∷ ws)) }
         ensures line { self.new.line ≡ self.old.line }

@@ -36,7 +36,7 @@ pub(crate) fn layer_word(layer: Layer) -> &'static [u8]
 
 // What is left of the room after the numbers, each with a space before it.
 // Counted down from the room, since the bytes of a long slice of numbers need not fit a usize.
-// A loop: of a `try_fold` over a slice the library has no lemma.
+// A loop: a `for` with `?` is as plain as a `try_fold`, whose goal stayed open.
 pub(crate) fn after_numbers(room: usize, numbers: &[u32]) -> Option<usize>
     ensures { Leaves room (spread (figures numbers.now)) result }
 {

@@ -5,6 +5,7 @@ ghost use Rattle.batch.specs.Items.{items, first_of, joined, put_answer};
 use super::Batch;
 use std::alloc::AllocError;
 
+// By hand: none is derived for a type with a parameter and a ghost field.
 impl<T: Copy, const N: usize> Clone for Batch<T, N> {
     ghost is_clone = { λ x y. y ≡ x };
 

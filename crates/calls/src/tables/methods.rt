@@ -1,4 +1,5 @@
-// What the calls do to the tables. A batch has a ghost field, so it is copied out and put back: no proof is found for a `&mut` to it.
+// What the calls do to the tables. Bounds are tested by `if`, since of what `get_mut` answers a proof knows no element.
+// A batch has a ghost field, so it is copied out and put back: no proof is found for a `&mut` to it.
 ghost use Rattle.std.specs.Prelude.{◌≡◌, ◌*◌, ◌<◌, ◌≤◌, length, None, slice_index_or};
 ghost use Rattle.clock.specs.Epochs.{golden_ticket};
 ghost use Rattle.network.specs.Cycle.{in_slot_order};

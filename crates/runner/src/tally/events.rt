@@ -1,6 +1,6 @@
 // The events of a cycle, counted and written.
 ghost use Rattle.std.specs.Prelude.{◌≡◌, ◌+◌, ◌-◌, ◌*◌, ◌≤◌, [], ◌∷◌, Ok};
-ghost use Rattle.line.specs.Lines.{holds};
+ghost use Rattle.line.specs.Lines.{holds, SameLender as SameLine};
 ghost use Rattle.writer.specs.Listings.{SameLender};
 ghost use Rattle.network.specs.Kinds.{kind_word};
 ghost use Rattle.runner.specs.Listing.{enters, leaves, mean_of};
@@ -60,7 +60,7 @@ impl Tally {
     ) -> Result<(), Refusal>
         requires { Tellable self.old writer.old (holds line.old) }
         ensures told { (result ≡ Ok tt) × (Told self.old writer.old (holds line.old) self.new writer.new) }
-        ensures lender { (SameLender writer.old writer.new) × (line.new.memory.ghost_name ≡ line.old.memory.ghost_name) }
+        ensures lender { (SameLender writer.old writer.new) × (SameLine line.old line.new) }
     {
         while let Some(event) = line.take() {
             self.event(event, writer)?;
