@@ -4,7 +4,7 @@ use Rattle.std.specs.List.{AllByRecursion}
 use Rattle.std.proofs.lemmas.List.{length-append, length_push}
 use Rattle.std.proofs.ByRecursion.{All-get_or}
 use Rattle.fabric.specs.declared.parts.Cable.{Cable as Wire}
-use Rattle.text.specs.Texts.{Field, Fits, row, written, text, Barred}
+use Rattle.text.specs.Texts.{Field, Fits, Free, Lined, row, written, text, Barred}
 use Rattle.runsheet.specs.Said.{Said}
 use Rattle.runsheet.specs.Sheets.{lines, Formed, SheetText, Refused, packets_line, packet_line, kind_line}
 use Rattle.text.specs.Lines.{cables_line, cable_line, shape_line, run_line}
@@ -16,9 +16,10 @@ use Rattle.runsheet.specs.declared.reader.Section.TheVariants as section
 use Rattle.runsheet.specs.declared.reader.Entry.{Entry}
 use Rattle.runsheet.specs.declared.reader.Entry.TheVariants as entry
 use Rattle.text.proofs.Tidy.{Tidy, tidy_cables, same_cables}
-use Rattle.runsheet.proofs.Apart.{tidy_lines, tidy_packets, fits_packets, same_packets, all_left}
+use Rattle.runsheet.proofs.Apart.{tidy_entry, tidy_lines, tidy_packets, fits_packets, same_packets, all_left}
 use Rattle.text.proofs.Aligned.{Agree, Matched, cut}
-use Rattle.text.proofs.Stopping.{along, goes_on, halted, onward}
+use Rattle.text.proofs.Stopping.{along, goes_on, halted, onward, is_line, no_line, other_line}
+use Rattle.runsheet.proofs.Sections.{unlike}
 use Rattle.runsheet.proofs.Moves.{few_cables, few_packets}
 use Rattle.runsheet.proofs.Filling.{fill, spare_wires, spare_plans, formed_fill, lines_fill, weaker, no_wires, no_plans, begun}
 use Rattle.runsheet.proofs.Following.{length_lines, next_packets, follows}
@@ -38,6 +39,9 @@ tidied s F = tidy_lines s F.numbers
 -- the bytes of a line and what follows it
 ended : (l : List Field) (more : List ℕ) → written l ++ more ≡ row l ++ 10 ∷ more
 ended l more = append_assoc (row l) (10 ∷ []) more
+
+some_line : (rest : List ℕ) (ws : List (List ℕ)) (more : List ℕ) → Lined rest ws more → rest ≡ [] → ⊥
+some_line rest ws more l z = let e = length-append l.0 (10 ∷ more) in omega (arith, ap length (sym z ∙ l.1))
 
 -- what was read, filled up, is lawful
 lawful : (d : Draft) → Valid d → Lawful (fill d d.wires d.plans)
@@ -130,18 +134,22 @@ module _ (d : Draft) (bs rest : List ℕ) (v : Valid d) (o : bs ≡ text (lines_
 
   module _ (short : length bs ≤ 65536) (f : Fault) (k : ℕ) (n : k ≡ length (lines_read d)) where
     -- the line that comes next is refused
-    pub refused : Refuses d (k + 1) rest f → (rest ≡ [] → ⊥) → Refused bs f
-    refused q some =
+    pub refused : (ws : List (List ℕ)) (more : List ℕ) → Lined rest ws more → Refuses d (k + 1) ws f → Refused bs f
+    refused ws more l q =
         inr (
           short,
           (
             length (lines_read d),
             ⊎_elim
-                (λ i. stuck f (i.0 ∙ ap (λ j. ill_formed (j + 1)) n) i.1 (λ _. some))
-                (λ i. overs f i.1.0 i.1.1 (i.0 ∙ ap (λ j. too_many (j + 1)) n) i.1.2 i.1.3 i.1.4 i.1.5)
+                (λ i. stuck f (i.0 ∙ ap (λ j. ill_formed (j + 1)) n) (other_line entry_line (Suits d) rest tidy_entry ws more l (unlike d ws i.1)) (λ _ z. some_line rest ws more l z))
+                (λ i. overs f i.1.0 more (i.0 ∙ ap (λ j. too_many (j + 1)) n) i.1.2 i.1.3 i.1.4 (is_line (entry_line i.1.0) rest more ws l i.1.1))
                 q,
           ),
         )
+
+    -- it lacks its end
+    pub unended : told f ≡ ill_formed (k + 1) → Free 10 rest → (rest ≡ [] → ⊥) → Refused bs f
+    unended at free some = inr (short, (length (lines_read d), stuck f (at ∙ ap (λ j. ill_formed (j + 1)) n) (no_line entry_line (Suits d) rest free) (λ _. some)))
 
     -- a line is missing
     pub missing : told f ≡ ill_formed (k + 1) → (d.section ≡ section.End → ⊥) → rest ≡ [] → Refused bs f

@@ -1,9 +1,9 @@
 -- How far the reader has come, and what may come next.
-use Rattle.std.specs.Prelude.{◌≡◌, ℕ, ◌+◌, ◌<◌, ◌≤◌, cond, ◌⊎◌, List, [], ◌∷◌, ◌++◌, map, length, Result, MatchResult, nat_lt}
+use Rattle.std.specs.Prelude.{◌≡◌, ℕ, ◌<◌, ◌≤◌, cond, ◌⊎◌, List, [], ◌∷◌, ◌++◌, map, length, Result, MatchResult, nat_lt}
 use Rattle.std.specs.List.{AllByRecursion}
 use Rattle.batch.specs.Items.{items}
 use Rattle.fabric.specs.declared.parts.Cable.{Cable as Wire}
-use Rattle.text.specs.Texts.{Field, Fits, shown, written, Barred, Any}
+use Rattle.text.specs.Texts.{Field, Fits, shown, Any}
 use Rattle.text.specs.Fields.{Unlike}
 use Rattle.text.specs.Faults.{told, ill_formed, too_many}
 use Rattle.text.specs.Lines.{shape_line, run_line, cables_line, cable_line, Brief, Uncabled}
@@ -155,41 +155,21 @@ pub record Valid (d : Draft) : Type 0 where
   pub last : d.last ≡ latest 0 d.packets
   pub stage : Stage d.section d
 
--- what the reader holds is the beginning of a sheet
-pub record Sound (r : Reader) : Type 0 where
-  pub valid : Valid (draft r)
-  pub line : r.line ≡ length (lines_read (draft r))
-
--- the reader after one line more
-pub record Grown (r : Reader) (e : Entry) (r' : Reader) : Type 0 where
-  pub sound : Sound r'
-  pub lines : lines_read (draft r') ≡ lines_read (draft r) ++ entry_line e ∷ []
+-- what was read after one line more
+pub record Grown (d : Draft) (e : Entry) (d' : Draft) : Type 0 where
+  pub valid : Valid d'
+  pub lines : lines_read d' ≡ lines_read d ++ entry_line e ∷ []
 
 -- the section of the next item while there are fewer than were told, then the one after the list
 abbrev pub after : ℕ → ℕ → Section → Section → Section
 after n m s t = cond (nat_lt n m) s t
 
-abbrev pub stepped : Reader → Section → Reader
-stepped r s =
-    record {
-      section = s;
-      line = r.line + 1;
-      shape = r.shape;
-      kind = r.kind;
-      run = r.run;
-      cables = r.cables;
-      wires = r.wires;
-      packets = r.packets;
-      plans = r.plans;
-      last = r.last;
-    }
+-- the words of line k, which comes next, are those of none that may come next, or of one with a count above its limit
+abbrev pub Refuses : Draft → ℕ → List (List ℕ) → Fault → Type 0
+Refuses d k ws f =
+    ((told f ≡ ill_formed k) × Bars d.section d ws)
+    ⊎ ((told f ≡ too_many k) × ((e : Entry) × (ws ≡ map shown (entry_line e)) × AllByRecursion Fits (entry_line e) × Suits d e × Exceeds e))
 
--- line k, which comes next, is refused: the rest of the text begins with no line that may come next, or with a count above its limit
-abbrev pub Refuses : Draft → ℕ → List ℕ → Fault → Type 0
-Refuses d k rest f =
-    ((told f ≡ ill_formed k) × Barred entry_line (Suits d) rest)
-    ⊎ ((told f ≡ too_many k) × ((e : Entry) × (more : List ℕ) × AllByRecursion Fits (entry_line e) × Suits d e × Exceeds e × (rest ≡ written (entry_line e) ++ more)))
-
--- the line that comes next was read, and what follows it
-abbrev pub Reached : Reader → Reader → List ℕ → List ℕ → Type 0
-Reached r r' rest more = (e : Entry) × Grown r e r' × (rest ≡ written (entry_line e) ++ more)
+-- the line that comes next was read
+abbrev pub Reached : Draft → Draft → List (List ℕ) → Type 0
+Reached d d' ws = (e : Entry) × Grown d e d' × (ws ≡ map shown (entry_line e))

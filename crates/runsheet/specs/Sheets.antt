@@ -14,8 +14,12 @@ abbrev pub kind_word : SwitchKind → List ℕ
 kind_word Chipper = codes "chipper"
 kind_word Bless = codes "bless"
 
+-- the field that a kind has in its line
+abbrev pub kind_field : SwitchKind → List Field
+kind_field k = word (kind_word k) ∷ []
+
 abbrev pub kind_line : SwitchKind → List Field
-kind_line k = word (codes "switch") ∷ word (kind_word k) ∷ []
+kind_line k = word (codes "switch") ∷ kind_field k
 
 abbrev pub packets_line : ℕ → List Field
 packets_line n = word (codes "packets") ∷ number n ∷ []

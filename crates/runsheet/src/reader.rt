@@ -1,11 +1,13 @@
 // The reader of run sheets judges each line by the section that it is in.
-ghost use Rattle.std.specs.Prelude.{◌≡◌, ◌+◌, ◌≤◌, MatchResult};
+ghost use Rattle.std.specs.Prelude.{◌≡◌, length, MatchResult};
 ghost use Rattle.std.specs.List.{AllByRecursion};
+ghost use Rattle.batch.specs.Items.{items};
 ghost use Rattle.text.specs.Faults.{told, too_many};
-ghost use Rattle.text.specs.Texts.{parted, Fits};
+ghost use Rattle.text.specs.Fields.{words};
+ghost use Rattle.text.specs.Texts.{Fits};
 ghost use Rattle.runsheet.specs.Said.{said};
 ghost use Rattle.runsheet.specs.Sheets.{SheetText, Refused};
-ghost use Rattle.runsheet.specs.Reading.{entry_line, draft, Suits, Judges, Within, Exceeds, Sound, Grown, Reached, Refuses, after, stepped};
+ghost use Rattle.runsheet.specs.Reading.{entry_line, draft, Suits, Judges, Within, Exceeds, Valid, Grown, Reached, Refuses, after};
 
 use super::parts::{MOST_PACKETS, Packet, SwitchKind};
 use super::rows;
@@ -13,8 +15,9 @@ use super::sheet::Sheet;
 use batch::Batch;
 use fabric::parts::Cable;
 use text::fault::Fault;
-use text::field::{Fields, find, is};
-use text::parts::{MOST_BYTES, MOST_CABLES, Run, Shape};
+use text::field::{Fields, is};
+use text::lines::Lines;
+use text::parts::{MOST_CABLES, Run, Shape};
 use text::rows as shared;
 
 // What the next line has to be.
@@ -43,8 +46,8 @@ enum Entry {
 }
 
 // A count over its limit is refused only where its line is of its form.
-fn check_limit(entry: Entry, line: u32) -> Result<(), Fault>
-    ensures { MatchResult result (λ _. Within entry) (λ f. (told f ≡ too_many line) × Exceeds entry) }
+fn check_limit(entry: Entry, line: &Fields) -> Result<(), Fault>
+    ensures { MatchResult result (λ _. Within entry) (λ f. (told f ≡ too_many line.now.line) × Exceeds entry) }
 {
     let (count, most) = match entry {
         Entry::Cables(count) => (count, MOST_CABLES),
@@ -52,16 +55,27 @@ fn check_limit(entry: Entry, line: u32) -> Result<(), Fault>
         _ => return Ok(()),
     };
     if count > most {
-        return Err(Fault::too_many(line));
+        return Err(line.excess());
     }
     Ok(())
 }
 
-// What was read of a sheet: `line` lines, of at most 389, among them the first of `wires` cables and of `plans` packets.
+// The next item of a list while fewer are read than were told, or what comes past the list.
+fn go_on<T: Copy, const N: usize>(
+    list: &Batch<T, N>,
+    told: usize,
+    item: Section,
+    past: Section,
+) -> Section
+    ensures { result ≡ after (length (items list.now)) told item past }
+{
+    if list.len() < told { item } else { past }
+}
+
+// What was read of a sheet, among it the first of `wires` cables and of `plans` packets.
 #[derive(Drop)]
 struct Reader {
     section: Section,
-    line: u32,
     shape: Shape,
     kind: SwitchKind,
     run: Run,
@@ -75,11 +89,10 @@ struct Reader {
 
 impl Reader {
     fn new() -> Reader
-        ensures { (Sound result) × (result.section ≡ Section.Layout) }
+        ensures { Valid (draft result) × (result.section ≡ Section.Layout) }
     {
         Reader {
             section: Section::Layout,
-            line: 0,
             // a blank until its line is read, as all that follows; no default is derived for a variant with fields
             shape: Shape::Cabled { nodes: 0 },
             kind: SwitchKind::default(),
@@ -92,111 +105,80 @@ impl Reader {
         }
     }
 
-    // What the line after those that were read says. A cable and a packet have no fixed first
-    // word, so their lines are read from the start.
-    fn entry(&self, bytes: &[u8]) -> Result<Entry, Fault>
-        requires { self.now.line ≤ 389 }
-        ensures { Judges (draft self.now) (self.now.line + 1) (parted 32 bytes.now) result }
+    // What the next line says. A cable and a packet have no fixed first word, so their lines are
+    // read from the start.
+    fn entry(&self, line: &Fields) -> Result<Entry, Fault>
+        ensures { Judges (draft self.now) line.now.line (words line.now) result }
     {
-        let line = self.line + 1;
-        let mut fields = Fields::new(bytes, line);
+        let (mut whole, mut fields) = (*line, *line);
         let word = fields.word()?;
         match (self.section, word) {
-            (Section::Layout, w) if is(w, b"mesh") => Ok(Entry::Shape(shared::mesh(&mut fields)?)),
-            (Section::Layout, w) if is(w, b"cabled") => Ok(Entry::Shape(shared::cabled(
-                &mut fields,
-            )?)),
-            (Section::Switch, w) if is(w, b"switch") => Ok(Entry::Kind(rows::switch(&mut fields)?)),
-            (Section::Run, w) if is(w, b"run") => Ok(Entry::Run(shared::run(&mut fields)?)),
-            (Section::Cables, w) if is(w, b"cables") => Ok(Entry::Cables(rows::cables(
-                &mut fields,
-                self.shape,
-            )?)),
-            (Section::Cable, _) => Ok(Entry::Cable(shared::cable(&mut Fields::new(bytes, line))?)),
-            (Section::Packets, w) if is(w, b"packets") => Ok(Entry::Packets(shared::count(
-                &mut fields,
-            )?)),
-            (Section::Packet, _) => Ok(Entry::Packet(rows::packet(
-                &mut Fields::new(bytes, line),
-                self.last,
-            )?)),
-            _ => Err(Fault::ill_formed(line)),
+            (Section::Layout, w) if is(w, b"mesh") => shared::mesh(&mut fields).map(Entry::Shape),
+            (Section::Layout, w) if is(w, b"cabled") => {
+                shared::cabled(&mut fields).map(Entry::Shape)
+            }
+            (Section::Switch, w) if is(w, b"switch") => rows::switch(&mut fields).map(Entry::Kind),
+            (Section::Run, w) if is(w, b"run") => shared::run(&mut fields).map(Entry::Run),
+            (Section::Cables, w) if is(w, b"cables") => {
+                rows::cables(&mut fields, self.shape).map(Entry::Cables)
+            }
+            (Section::Cable, _) => shared::cable(&mut whole).map(Entry::Cable),
+            (Section::Packets, w) if is(w, b"packets") => {
+                shared::count(&mut fields).map(Entry::Packets)
+            }
+            (Section::Packet, _) => rows::packet(&mut whole, self.last).map(Entry::Packet),
+            _ => Err(line.fault()),
         }
-    }
-
-    // One line more is read, and `section` comes next.
-    fn go(&mut self, section: Section)
-        requires { self.old.line ≤ 389 }
-        ensures { self.new ≡ stepped self.old section }
-    {
-        self.section = section;
-        self.line += 1;
-    }
-
-    // On to the next item of a list while fewer are read than were told, or past the list.
-    fn go_on(&mut self, read: usize, told: usize, item: Section, past: Section)
-        requires { self.old.line ≤ 389 }
-        ensures { self.new ≡ stepped self.old (after read told item past) }
-    {
-        self.go(if read < told { item } else { past })
     }
 
     // Takes in what a line says.
     fn put(&mut self, entry: Entry)
-        requires sound { Sound self.old }
+        requires valid { Valid (draft self.old) }
         requires suits { AllByRecursion Fits (entry_line entry) × Suits (draft self.old) entry × Within entry }
-        ensures { Grown self.old entry self.new }
+        ensures { Grown (draft self.old) entry (draft self.new) }
     {
         match entry {
             Entry::Shape(shape) => {
                 self.shape = shape;
-                self.go(Section::Switch)
+                self.section = Section::Switch;
             }
             Entry::Kind(kind) => {
                 self.kind = kind;
-                self.go(Section::Run)
+                self.section = Section::Run;
             }
             Entry::Run(run) => {
                 self.run = run;
-                self.go(Section::Cables)
+                self.section = Section::Cables;
             }
             Entry::Cables(count) => {
                 self.wires = count;
-                let read = self.cables.len();
-                self.go_on(read, count, Section::Cable, Section::Packets)
+                self.section = go_on(&self.cables, count, Section::Cable, Section::Packets);
             }
             Entry::Cable(cable) => {
                 self.cables.push(cable).unwrap();
-                let (read, told) = (self.cables.len(), self.wires);
-                self.go_on(read, told, Section::Cable, Section::Packets)
+                self.section = go_on(&self.cables, self.wires, Section::Cable, Section::Packets);
             }
             Entry::Packets(count) => {
                 self.plans = count;
-                let read = self.packets.len();
-                self.go_on(read, count, Section::Packet, Section::End)
+                self.section = go_on(&self.packets, count, Section::Packet, Section::End);
             }
             Entry::Packet(packet) => {
                 self.packets.push(packet).unwrap();
                 self.last = packet.cycle;
-                let (read, told) = (self.packets.len(), self.plans);
-                self.go_on(read, told, Section::Packet, Section::End)
+                self.section = go_on(&self.packets, self.plans, Section::Packet, Section::End);
             }
         }
     }
 
-    // Reads the line that `rest` begins with, and answers what follows it.
-    fn step<'t>(&mut self, rest: &'t [u8]) -> Result<&'t [u8], Fault>
-        requires { Sound self.old }
-        ensures { MatchResult result (λ more. Reached self.old self.new rest.now more.now) (λ f. Refuses (draft self.old) (self.old.line + 1) rest.now f) }
+    // Reads the next line.
+    fn step(&mut self, line: &Fields) -> Result<(), Fault>
+        requires { Valid (draft self.old) }
+        ensures { MatchResult result (λ _. Reached (draft self.old) (draft self.new) (words line.now)) (λ f. Refuses (draft self.old) line.now.line (words line.now) f) }
     {
-        let end = find(rest, b'\n');
-        if end == rest.len() {
-            return Err(Fault::ill_formed(self.line + 1));
-        }
-        let entry = self.entry(&rest[0..end])?;
-        check_limit(entry, self.line + 1)?;
+        let entry = self.entry(line)?;
+        check_limit(entry, line)?;
         self.put(entry);
-        Ok(&rest[end + 1..])
+        Ok(())
     }
 }
 
@@ -204,13 +186,10 @@ impl Reader {
 pub fn read(bytes: &[u8]) -> Result<Sheet, Fault>
     ensures { MatchResult result (λ s. SheetText bytes.now (said s)) (λ f. Refused bytes.now f) }
 {
-    if bytes.len() > MOST_BYTES {
-        return Err(Fault::too_long());
-    }
+    let mut lines = Lines::new(bytes)?;
     let mut reader = Reader::new();
-    let mut rest = bytes;
-    while rest.len() > 0 {
-        rest = reader.step(rest)?;
+    while !lines.is_empty() {
+        reader.step(&lines.line()?)?;
     }
     match reader.section {
         Section::End => Ok(Sheet::new(
@@ -220,7 +199,7 @@ pub fn read(bytes: &[u8]) -> Result<Sheet, Fault>
             reader.cables,
             reader.packets,
         )),
-        _ => Err(Fault::ill_formed(reader.line + 1)),
+        _ => Err(lines.fault()),
     }
 }
 

@@ -1,11 +1,9 @@
 // What the lines say that only sheets have, after their first word if that is fixed.
-ghost use Rattle.std.specs.Prelude.{◌≡◌, ℕ, ◌≤◌, List, ◌∷◌, map, length, take, MatchResult, ◌≢◌, codes};
+ghost use Rattle.std.specs.Prelude.{◌≡◌, ◌≤◌, ◌∷◌, map, length, take, codes};
 ghost use Rattle.text.specs.Fields.{words, Reads, Begins};
 ghost use Rattle.text.specs.Texts.{number, Any};
-ghost use Rattle.text.specs.Faults.{told, ill_formed};
 ghost use Rattle.text.specs.Lines.{cables_line, Uncabled};
-ghost use Rattle.runsheet.specs.Sheets.{kind_word, kind_line, packet_line, Sized};
-ghost use Rattle.runsheet.specs.declared.parts.SwitchKind.{SwitchKind as Kind};
+ghost use Rattle.runsheet.specs.Sheets.{kind_field, kind_line, packet_line, Sized};
 
 use super::parts::{Packet, SwitchKind};
 use text::fault::Fault;
@@ -17,7 +15,7 @@ const MOST_WORDS: u32 = 4;
 
 // The next field, the name of a kind of switch. Compared with fixed byte strings, a form of the project.
 fn kind(fields: &mut Fields) -> Result<SwitchKind, Fault>
-    ensures words { MatchResult result (λ k. words fields.old ≡ kind_word k ∷ words fields.new) (λ f. (told f ≡ ill_formed fields.old.line) × ((k : Kind) (ws : List (List ℕ)) → words fields.old ≢ kind_word k ∷ ws)) }
+    ensures words { Begins kind_field Any (words fields.old) (words fields.new) fields.old.line result }
     ensures line { fields.new.line ≡ fields.old.line }
 {
     match fields.word()? {

@@ -13,7 +13,7 @@ use Rattle.text.specs.Lines.{shape_line, run_line, cables_line, cable_line, Brie
 use Rattle.sheet.specs.Reading.{Over, Between, Miscounted, Fitting, Unwired}
 use Rattle.text.specs.declared.fault.Fault.{Fault}
 use Rattle.text.specs.declared.field.Fields.{Fields}
-use Rattle.sheet.specs.declared.lines.Lines.{Lines}
+use Rattle.text.specs.declared.lines.Lines.{Lines}
 use Rattle.text.specs.declared.parts.Shape.{Shape}
 use Rattle.text.specs.declared.parts.Shape.TheVariants.{Mesh, Cabled}
 use Rattle.text.specs.declared.parts.Run.{Run}

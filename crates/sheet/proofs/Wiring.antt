@@ -10,7 +10,7 @@ use Rattle.sheet.specs.Counts.{Counts}
 use Rattle.text.specs.Lines.{cables_line, cable_line}
 use Rattle.sheet.specs.Reading.{Between, Miscounted, Counted, Fitting, Unwired}
 use Rattle.text.specs.declared.fault.Fault.{Fault}
-use Rattle.sheet.specs.declared.lines.Lines.{Lines}
+use Rattle.text.specs.declared.lines.Lines.{Lines}
 use Rattle.text.specs.declared.parts.Shape.{Shape}
 use Rattle.text.specs.declared.parts.Shape.TheVariants.{Cabled}
 use Rattle.text.proofs.Tidy.{tidy_cables}

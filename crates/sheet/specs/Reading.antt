@@ -9,7 +9,7 @@ use Rattle.text.specs.Faults.{told, ill_formed, too_many}
 use Rattle.text.specs.Lines.{cables_line, cable_line, Uncabled}
 use Rattle.sheet.specs.Questions.{count_lines}
 use Rattle.text.specs.declared.fault.Fault.{Fault}
-use Rattle.sheet.specs.declared.lines.Lines.{Lines}
+use Rattle.text.specs.declared.lines.Lines.{Lines}
 use Rattle.text.specs.declared.parts.Shape.{Shape}
 use Rattle.text.specs.declared.parts.Shape.TheVariants.{Mesh, Cabled}
 

@@ -1,7 +1,6 @@
 // Questions: what they say where they are of their form, and their faults where they are not.
 #![tactic(auto)]
 
-mod lines;
 pub mod parts;
 pub mod question;
 mod rows;

@@ -3,13 +3,13 @@ ghost use Rattle.std.specs.Prelude.{◌≡◌, ◌≤◌, length, MatchResult};
 ghost use Rattle.sheet.specs.Questions.{asked, asked_text, Formed, Refused};
 ghost use Rattle.sheet.specs.Reading.{Counted, Wired};
 
-use super::lines::Lines;
 use super::parts::Question;
 use super::rows;
 use batch::Batch;
 use fabric::parts::Cable;
 use text::fault::Fault;
-use text::parts::{MOST_BYTES, MOST_CABLES, Shape};
+use text::lines::Lines;
+use text::parts::{MOST_CABLES, Shape};
 use text::rows as shared;
 
 // How many cables follow: a mesh has none, and no line that says so.
@@ -18,7 +18,7 @@ fn count(lines: &mut Lines, shape: Shape) -> Result<usize, Fault>
 {
     match shape {
         Shape::Mesh { .. } => Ok(0),
-        Shape::Cabled { .. } => rows::cables(&mut lines.next()?),
+        Shape::Cabled { .. } => rows::cables(&mut lines.line()?),
     }
 }
 
@@ -29,7 +29,7 @@ fn cables(lines: &mut Lines, count: usize) -> Result<Batch<Cable, MOST_CABLES>, 
 {
     let mut cables = Batch::new(Cable::default());
     for _ in 0..count {
-        let cable = shared::cable(&mut lines.next()?)?;
+        let cable = shared::cable(&mut lines.line()?)?;
         cables.push(cable).unwrap();
     }
     Ok(cables)
@@ -40,12 +40,9 @@ fn cables(lines: &mut Lines, count: usize) -> Result<Batch<Cable, MOST_CABLES>, 
 pub fn read(bytes: &[u8]) -> Result<Question, Fault>
     ensures { MatchResult result (λ q. (length bytes.now ≤ 65536) × Formed 128 (asked q) × (bytes.now ≡ asked_text (asked q))) (λ f. Refused bytes.now f) }
 {
-    if bytes.len() > MOST_BYTES {
-        return Err(Fault::too_long());
-    }
-    let mut lines = Lines::new(bytes);
-    let shape = rows::shape(&mut lines.next()?)?;
-    let run = rows::run(&mut lines.next()?)?;
+    let mut lines = Lines::new(bytes)?;
+    let shape = rows::shape(&mut lines.line()?)?;
+    let run = rows::run(&mut lines.line()?)?;
     let count = count(&mut lines, shape)?;
     let cables = cables(&mut lines, count)?;
     lines.end()?;

@@ -1,10 +1,14 @@
 -- Parting a text by a byte, and joining the parts by it.
 use Rattle.std.proofs.Common.{◌≡◌, ℕ, ◌+◌, ◌<◌, ◌≤◌, eqb, List, [], ◌∷◌, ◌++◌, length, get_or, take, drop, sym, refl, ap, ◌∙◌, subst, ⊎_elim, Option, None, Some, Bor, arith}
-use Rattle.std.specs.List.{flat_map, AllByRecursion}
-use Rattle.std.specs.Option.{option_map_or}
+use Rattle.std.specs.List.{flat_map, position, position_or_len, AllByRecursion}
+use Rattle.std.specs.Option.{option_map_or, unwrap_or}
 use Rattle.std.specs.Slice.{IsGetRangeResult}
-use Rattle.std.proofs.lemmas.List.{append-nil, take-append-drop, drop_more, take_all, take_rest}
-use Rattle.std.proofs.lemmas.Bool.{cond-true, cond-false, eq-eqb, ne_eqb, cases_Bool, eqb-true}
+use Rattle.std.proofs.lemmas.List.{append-nil, take-append-drop, drop_more, take_all, take_rest, length-take-le, get_or-take}
+use Rattle.std.proofs.lemmas.List.Quantifiers.{position-Some}
+use Rattle.std.proofs.lemmas.List.Sums.{fails_before_first}
+use Rattle.std.proofs.lemmas.Grind.{common_steps}
+use Rattle.std.proofs.ByRecursion.{All-from_get_or}
+use Rattle.std.proofs.lemmas.Bool.{cond-true, cond-false, eq-eqb, ne_eqb, cases_Bool, eqb-true, false≢true}
 use Rattle.text.specs.Texts.{parted, onto, spaced, Free}
 
 pub parted_free : (b : ℕ) (w : List ℕ) → Free b w → parted b w ≡ w ∷ []
@@ -15,6 +19,23 @@ pub parted_at : (b : ℕ) (w r : List ℕ) → Free b w → parted b (w ++ b ∷
 parted_at b [] r h = cond-true (eqb b b) _ _ (eq-eqb b b refl)
 parted_at b (x ∷ xs) r h = cond-false (eqb x b) _ _ (ne_eqb x b h.0) ∙ ap (onto x) (parted_at b xs r h.1)
 
+-- what stands before the first b, which is at index e
+pub first_at : (b : ℕ) (s : List ℕ) (e : ℕ) → position (λ x. eqb x b) s ≡ Some e → (e < length s) × Free b (take e s) × (get_or s e 0 ≡ b)
+first_at b s e h =
+    let k = position-Some (λ x. eqb x b) s e 0 h in (
+      k.0,
+      All-from_get_or (λ x. x ≡ b → ⊥) (take e s) 0 (λ i l y.
+          let m : i < e = omega (arith, length-take-le e s (omega (arith, k.0))) in
+          false≢true (sym (k.2 i m) ∙ eq-eqb (get_or s i 0) b (sym (get_or-take e s i 0 m) ∙ y))),
+      eqb-true (get_or s e 0) b k.1,
+    )
+
+-- there is no b
+pub none_at : (b : ℕ) (s : List ℕ) → position (λ x. eqb x b) s ≡ None → Free b s
+none_at b s h =
+    let k : length s ≤ position_or_len (λ x. eqb x b) s = grind (arith, common_steps) in
+    All-from_get_or (λ x. x ≡ b → ⊥) s 0 (λ i l y. false≢true (sym (fails_before_first (λ x. eqb x b) s i 0 (omega arith)) ∙ eq-eqb (get_or s i 0) b y))
+
 -- up to the first b, at index e
 pub parted_found : (b : ℕ) (s : List ℕ) (e : ℕ) → e < length s → Free b (take e s) → get_or s e 0 ≡ b → parted b s ≡ take e s ∷ parted b (drop (e + 1) s)
 parted_found b s e l f g =
@@ -22,8 +43,8 @@ parted_found b s e l f g =
     ∙ parted_at b (take e s) (drop (e + 1) s) f
 
 -- there is no b
-pub parted_none : (b : ℕ) (s : List ℕ) (e : ℕ) → length s ≤ e → Free b (take e s) → parted b s ≡ take e s ∷ []
-parted_none b s e l f = let t = take_all e s l in parted_free b s (subst (Free b) t f) ∙ ap (λ w. w ∷ []) (sym t)
+pub parted_none : (b : ℕ) (s : List ℕ) (e : ℕ) → length s ≤ e → Free b s → parted b s ≡ take e s ∷ []
+parted_none b s e l f = parted_free b s f ∙ ap (λ w. w ∷ []) (sym (take_all e s l))
 
 -- parting undoes the joining
 pub parted_spaced : (w : List ℕ) (ws : List (List ℕ)) → AllByRecursion (Free 32) (w ∷ ws) → parted 32 (spaced (w ∷ ws)) ≡ w ∷ ws
@@ -64,9 +85,12 @@ parted_not_none b s e =
 abbrev pub left : Option (Bor (List ℕ)) → List (List ℕ)
 left r = option_map_or (λ x. parted 32 x.now) r []
 
--- what follows the first space, at index e, if there is one
-pub parted_get : (s : List ℕ) (e : ℕ) (r : Option (Bor (List ℕ))) → Free 32 (take e s) → (e < length s → get_or s e 0 ≡ 32) → IsGetRangeResult s (e + 1) (length s) r → parted 32 s ≡ take e s ∷ left r
-parted_get s e None f g h = parted_none 32 s e (omega (arith, h.0)) f
-parted_get s e (Some x) f g h =
-    let l : e < length s = omega (arith, h.0) in
-    parted_found 32 s e l f (g l) ∙ ap (λ r. take e s ∷ parted 32 r) (sym (take_rest s (e + 1)) ∙ sym h.0.2)
+-- up to the first space, and what follows it, if there is one
+pub parted_get : (s : List ℕ) (o : Option ℕ) (e : ℕ) (r : Option (Bor (List ℕ))) → o ≡ position (λ x. eqb x 32) s → e ≡ unwrap_or o (length s) → IsGetRangeResult s (e + 1) (length s) r → parted 32 s ≡ take e s ∷ left r
+parted_get s None e None p q g = parted_none 32 s e (omega (arith, q)) (none_at 32 s (sym p))
+parted_get s None e (Some x) p q g = absurd (let z : ⊥ = omega (arith, q, g.0) in z)
+parted_get s (Some i) e None p q g = absurd (let z : ⊥ = omega (arith, q, g.0, (first_at 32 s i (sym p)).0) in z)
+parted_get s (Some i) e (Some x) p q g =
+    let f = first_at 32 s i (sym p) in
+    subst (λ k. parted 32 s ≡ take k s ∷ parted 32 (drop (k + 1) s)) (sym q) (parted_found 32 s i f.0 f.1 f.2)
+    ∙ ap (λ r. take e s ∷ parted 32 r) (sym (take_rest s (e + 1)) ∙ sym g.0.2)

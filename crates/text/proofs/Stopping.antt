@@ -1,28 +1,25 @@
 -- Where reading stops, no document goes on.
-use Rattle.std.proofs.Common.{◌≡◌, ℕ, ◌+◌, ◌-◌, ◌<◌, ◌≤◌, List, [], ◌∷◌, ◌++◌, map, length, get_or, take, drop, sym, refl, ap, ◌∙◌, subst, inl, append_assoc, arith}
-use Rattle.std.specs.List.{AllByRecursion}
-use Rattle.std.proofs.lemmas.List.{take-append-drop, take_all, take_rest, drop_more, take_at, length-append, flat_map_more}
+use Rattle.std.proofs.Common.{◌≡◌, ℕ, ◌+◌, ◌-◌, ◌<◌, eqb, List, [], ◌∷◌, ◌++◌, map, length, take, drop, Some, sym, refl, ap, ◌∙◌, subst, inl, append_assoc, arith}
+use Rattle.std.specs.List.{position, AllByRecursion}
+use Rattle.std.proofs.lemmas.List.{take-append-drop, take_rest, drop_more, take_at, length-append, flat_map_more}
 use Rattle.text.specs.Texts.{Field, Fits, Free, Lined, Barred, shown, spaced, row, written, text, parted}
 use Rattle.text.specs.Fields.{Unlike}
 use Rattle.text.specs.Faults.{told, ill_formed, GoesOn, Stops}
 use Rattle.text.specs.declared.fault.Fault.{Fault}
-use Rattle.text.proofs.Parting.{spaced_parted}
+use Rattle.text.proofs.Parting.{first_at, spaced_parted}
 use Rattle.text.proofs.Tidy.{Tidy}
 use Rattle.text.proofs.Aligned.{cut, Matched, matched}
 
 -- up to the first byte 10, at index `end`
-pub lined : (rest : List ℕ) (end : ℕ) (ws : List (List ℕ)) → end < length rest → Free 10 (take end rest) → get_or rest end 0 ≡ 10 → ws ≡ parted 32 (take (end - 0) rest) →
+pub lined : (rest : List ℕ) (end : ℕ) (ws : List (List ℕ)) → position (λ x. eqb x 10) rest ≡ Some end → ws ≡ parted 32 (take end rest) →
     Lined rest ws (take (length rest - (end + 1)) (drop (end + 1) rest))
-lined rest end ws l f g w = (
-  take end rest,
-  sym (take-append-drop end rest) ∙ ap (λ r. take end rest ++ r) (drop_more rest end 0 l ∙ ap (λ x. x ∷ drop (end + 1) rest) g ∙ ap (λ r. 10 ∷ r) (sym (take_rest rest (end + 1)))),
-  f,
-  w ∙ ap (λ k. parted 32 (take k rest)) (let z : end - 0 ≡ end = omega arith in z),
-)
-
--- no byte 10 is left
-pub unended : (rest : List ℕ) (end : ℕ) → Free 10 (take end rest) → length rest ≤ end → Free 10 rest
-unended rest end f l = subst (Free 10) (take_all end rest l) f
+lined rest end ws h w =
+    let f = first_at 10 rest end h in (
+      take end rest,
+      sym (take-append-drop end rest) ∙ ap (λ r. take end rest ++ r) (drop_more rest end 0 f.0 ∙ ap (λ x. x ∷ drop (end + 1) rest) f.2 ∙ ap (λ r. 10 ∷ r) (sym (take_rest rest (end + 1)))),
+      f.1,
+      w,
+    )
 
 -- the words of a line are those of its fields
 pub is_line : (l : List Field) (rest more : List ℕ) (ws : List (List ℕ)) → Lined rest ws more → ws ≡ map shown l → rest ≡ written l ++ more

@@ -1,6 +1,7 @@
 -- The lines that more than one kind of text has.
 use Rattle.std.specs.Prelude.{◌≡◌, ℕ, ◌≤◌, List, [], ◌∷◌, ◌++◌, codes}
 use Rattle.fabric.specs.Ports.{letter}
+use Rattle.fabric.specs.declared.parts.Port.{Port}
 use Rattle.fabric.specs.declared.parts.Slot.{Slot}
 use Rattle.fabric.specs.declared.parts.Cable.{Cable}
 use Rattle.text.specs.Texts.{Field, word, number}
@@ -18,8 +19,15 @@ run_line r = word (codes "run") ∷ number r.tickets ∷ number r.words ∷ numb
 abbrev pub cables_line : ℕ → List Field
 cables_line n = word (codes "cables") ∷ number n ∷ []
 
+-- the fields that a number, a port and a slot have in a line
+abbrev pub number_field : ℕ → List Field
+number_field n = number n ∷ []
+
+abbrev pub port_field : Port → List Field
+port_field p = word (letter p) ∷ []
+
 abbrev pub slot_fields : Slot → List Field
-slot_fields s = number s.node ∷ word (letter s.port) ∷ []
+slot_fields s = number_field s.node ++ port_field s.port
 
 abbrev pub cable_line : Cable → List Field
 cable_line c = slot_fields c.one ++ slot_fields c.other

@@ -1,22 +1,20 @@
 // The fields of a line, one after another.
-ghost use Rattle.std.specs.Prelude.{◌≡◌, ℕ, ◌^◌, ◌<◌, ◌≤◌, List, [], ◌∷◌, length, take, decimal, Decides, MatchResult, ◌≢◌, slice_index};
-ghost use Rattle.fabric.specs.Ports.{letter};
-ghost use Rattle.fabric.specs.declared.parts.Port.{Port as Side};
+ghost use Rattle.std.specs.Prelude.{◌≡◌, ◌==◌, [], ◌∷◌, Decides, MatchResult, ◌≢◌};
+ghost use Rattle.std.specs.List.{position};
 ghost use Rattle.text.specs.Faults.{told, ill_formed, too_many};
-ghost use Rattle.text.specs.Texts.{parted, Free};
-ghost use Rattle.text.specs.Fields.{words};
+ghost use Rattle.text.specs.Texts.{parted, Any};
+ghost use Rattle.text.specs.Fields.{words, Begins};
+ghost use Rattle.text.specs.Lines.{number_field, port_field};
 
 use super::fault::Fault;
 use super::number::number;
 use fabric::parts::Port;
 
-// The index of the first `b` of `text`, or its length where there is none.
-pub fn find(text: &[u8], b: u8) -> usize
-    ensures within { result ≤ length text.now }
-    ensures before { Free b (take result text.now) }
-    ensures found { result < length text.now → slice_index text.now result ≡ b }
+// The index of the first `b` of `text`.
+pub(crate) fn find(text: &[u8], b: u8) -> Option<usize>
+    ensures { result ≡ position (λ x. x == b) text.now }
 {
-    text.iter().position(|x| *x == b).unwrap_or(text.len())
+    text.iter().position(|x| *x == b)
 }
 
 // For guards: a match on fixed bytes is checked byte by byte.
@@ -28,7 +26,7 @@ pub fn is(word: &[u8], fixed: &[u8]) -> bool
 
 // What is left of line `line` to read: nothing once its last field is read.
 // That the line's number stays is a clause of each method, as of a call by `&mut` nothing else says it.
-#[derive(Drop)]
+#[derive(Clone, Copy)]
 pub struct Fields<'a> {
     rest: Option<&'a [u8]>,
     line: u32,
@@ -51,14 +49,14 @@ impl<'a> Fields<'a> {
         ensures line { self.new.line ≡ self.old.line }
     {
         let rest = self.rest.ok_or(self.fault())?;
-        let end = find(rest, b' ');
+        let end = find(rest, b' ').unwrap_or(rest.len());
         self.rest = rest.get(end + 1..);
         Ok(&rest[..end])
     }
 
     // The next field, a number.
     pub fn number(&mut self) -> Result<u32, Fault>
-        ensures words { MatchResult result (λ n. (n < 2 ^ 32) × (words self.old ≡ decimal n ∷ words self.new)) (λ f. (told f ≡ ill_formed self.old.line) × ((n : ℕ) (ws : List (List ℕ)) → n < 2 ^ 32 → words self.old ≢ decimal n ∷ ws)) }
+        ensures words { Begins number_field Any (words self.old) (words self.new) self.old.line result }
         ensures line { self.new.line ≡ self.old.line }
     {
         let word = self.word()?;
@@ -67,7 +65,7 @@ impl<'a> Fields<'a> {
 
     // The next field, a port's letter. Compared with fixed byte strings, a form of the project.
     pub fn port(&mut self) -> Result<Port, Fault>
-        ensures words { MatchResult result (λ p. words self.old ≡ letter p ∷ words self.new) (λ f. (told f ≡ ill_formed self.old.line) × ((p : Side) (ws : List (List ℕ)) → words self.old ≢ letter p ∷ ws)) }
+        ensures words { Begins port_field Any (words self.old) (words self.new) self.old.line result }
         ensures line { self.new.line ≡ self.old.line }
     {
         match self.word()? {

@@ -3,6 +3,7 @@
 
 pub mod fault;
 pub mod field;
+pub mod lines;
 pub mod number;
 pub mod parts;
 pub mod rows;

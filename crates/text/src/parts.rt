@@ -1,8 +1,5 @@
 // What the lines of a text say.
 
-// The bytes that a text has at most.
-pub const MOST_BYTES: usize = 65536;
-
 // The cables that a text has at most.
 pub const MOST_CABLES: usize = 128;
 

@@ -1,31 +1,49 @@
-use Rattle.std.proofs.Common.{length, ap, arith, rules}
-use Rattle.std.proofs.lemmas.List.{nil_from_length}
+use Rattle.std.proofs.Common.{◌+◌, length, sym, ap, subst, ◌∙◌}
+use Rattle.std.proofs.lemmas.Bool.{false≢true}
+use Rattle.std.proofs.lemmas.List.{length_push}
+use Rattle.text.specs.Fields.{words}
 use Rattle.std.proofs.lemmas.Result.{err_from_is_err_and}
 use Rattle.runsheet.specs.Sheets.{Refused}
-use Rattle.runsheet.specs.Reading.{draft}
+use Rattle.runsheet.specs.Reading.{draft, entry_line, lines_read, Refuses}
 use Rattle.text.proofs.Exits.{err_at}
-use Rattle.runsheet.proofs.Moves.{short}
-use Rattle.runsheet.proofs.Stopped.{refused, missing, finished}
+use Rattle.text.proofs.Stopping.{is_line, onward}
+use Rattle.runsheet.proofs.Stopped.{refused, unended, missing, finished}
 use Rattle.runsheet.proofs.reader.read.Goals as goal
 
-pub returns-in_err-rest : goal.returns-in_err-rest
-returns-in_err-rest c =
+pub returns-in_err-line : goal.returns-in_err-line
+returns-in_err-line c =
     let bs = c.args.bytes.now in
-    let r = c.loop-rest.reader in
-    let i = c.loop-rest.invariant in
-    err_at _ (Refused bs) _ _ (err_from_is_err_and _ c.from_residual.ensures.1)
-    (refused (draft r) bs c.loop-rest.rest.now i.0.valid i.1 (omega arith) _ r.line i.0.line c.in_err-rest.ensures (λ z. omega (arith, ap length z, c.loop-rest-test.true)))
+    let i = c.loop-reader.invariant in
+    let h = c.in_err-line.ensures in
+    err_at _ (Refused bs) _ _ (err_from_is_err_and _ c.from_residual-in_err-line.ensures.1)
+    (unended (draft c.loop-reader.reader) bs c.loop-reader.lines.rest.now i.0 i.1 c.in_ok-lines.ensures.0 _ c.loop-reader.lines.read i.2 h.0 h.1 (λ z. false≢true (sym c.loop-reader-test.true ∙ c.is_empty.ensures.1 z)))
 
-pub overflow_add-reader : goal.overflow_add-reader
-overflow_add-reader c = let h = short _ c.loop-rest.invariant.0 in search (rules, h)
+pub loop-reader-preserved : goal.loop-reader-preserved
+loop-reader-preserved c =
+    let i = c.loop-reader.invariant in
+    let n = c.in_ok-line.ensures in
+    let s = c.in_ok-step.ensures in
+    let A = lines_read (draft c.loop-reader.reader) in
+    let B = lines_read (draft c.step.new.self) in (
+      s.1.valid,
+      onward A B (entry_line s.0) _ _ _ i.1 s.1.lines (is_line (entry_line s.0) _ _ _ n.0 s.2),
+      n.2 ∙ ap (λ k. k + 1) i.2 ∙ sym (length_push A (entry_line s.0)) ∙ ap length (sym s.1.lines),
+    )
+
+pub returns-in_err-step : goal.returns-in_err-step
+returns-in_err-step c =
+    let bs = c.args.bytes.now in
+    let i = c.loop-reader.invariant in
+    let n = c.in_ok-line.ensures in
+    err_at _ (Refused bs) _ _ (err_from_is_err_and _ c.from_residual-in_err-step.ensures.1)
+    (refused (draft c.loop-reader.reader) bs c.loop-reader.lines.rest.now i.0 i.1 c.in_ok-lines.ensures.0 _ c.loop-reader.lines.read i.2 _ _ n.0 (subst (λ k. Refuses (draft c.loop-reader.reader) k (words c.in_ok-line.field-0) c.in_err-step.field-0.0) n.1 c.in_err-step.ensures))
 
 pub returns-in_default : goal.returns-in_default
 returns-in_default c =
-    let r = c.loop-rest.reader in
-    let i = c.loop-rest.invariant in
-    missing (draft r) c.args.bytes.now c.loop-rest.rest.now i.0.valid i.1 (omega arith) _ r.line i.0.line c.ill_formed.ensures c.in_default.not-End (nil_from_length _ (omega (arith, c.loop-rest-test.false)))
+    let i = c.loop-reader.invariant in
+    missing (draft c.loop-reader.reader) c.args.bytes.now c.loop-reader.lines.rest.now i.0 i.1 c.in_ok-lines.ensures.0 _ c.loop-reader.lines.read i.2 c.fault.ensures c.in_default.not-End (c.is_empty.ensures.0 c.loop-reader-test.false)
 
 pub returns-in-End : goal.returns-in-End
 returns-in-End c =
-    let i = c.loop-rest.invariant in
-    finished (draft c.loop-rest.reader) c.args.bytes.now c.loop-rest.rest.now _ i.0.valid i.1 c.in-End.is (nil_from_length _ (omega (arith, c.loop-rest-test.false))) (omega arith) c.new.ensures
+    let i = c.loop-reader.invariant in
+    finished (draft c.loop-reader.reader) c.args.bytes.now c.loop-reader.lines.rest.now _ i.0 i.1 c.in-End.is (c.is_empty.ensures.0 c.loop-reader-test.false) c.in_ok-lines.ensures.0 c.new-in-End.ensures

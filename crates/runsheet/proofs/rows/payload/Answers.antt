@@ -17,7 +17,8 @@ returns-in_err-words c =
           (c.in_err-words.ensures.words.0 ∙ ap ill_formed inv.3)
           (λ xs more fits p e.
           c.in_err-words.ensures.words.1 (get_or xs i 0) (drop (i + 1) (figures (take k xs) ++ more))
-          (fits_at xs k i c.loop-i-test.true (omega arith) fits)
+          (fits_at xs k i c.loop-i-test.true (omega arith) fits, tt)
+          tt
           (figures_next xs c.loop-i.words k i _ more c.loop-i-test.true (omega arith) (omega (arith, inv.2)) (sym inv.0 ∙ e)));
       line = c.in_err-words.ensures.line ∙ inv.3;
     }

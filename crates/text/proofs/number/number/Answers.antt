@@ -1,63 +1,40 @@
-use Rattle.std.proofs.Common.{◌≡◌, ℕ, ◌≤◌, List, length, take, decimal, sym, ap, ◌∙◌, subst, inl, inr, arith}
-use Rattle.std.specs.Str.Parse.{digits_value, AllDigits}
-use Rattle.std.proofs.lemmas.List.{take_all}
-use Rattle.text.proofs.Numbers.{unwritten, written, value_step, digits_step, power_step, no_digit}
+use Rattle.std.proofs.Common.{◌≡◌, length, sym, ◌∙◌, subst, rules, arith}
+use Rattle.std.proofs.lemmas.Bool.{ltb-true}
+use Rattle.std.proofs.lemmas.Result.{err_from_is_err_and}
+use Rattle.std.specs.Str.Parse.{ParsesUnsigned}
+use Rattle.text.specs.Faults.{told, ill_formed}
+use Rattle.text.proofs.Exits.{err_at, mapped, mapped_ok, mapped_err}
+use Rattle.text.proofs.Numbers.{Unwritten, signed, padded, foreign, judged}
 use Rattle.text.proofs.number.number.Goals as goal
-use Rattle.text.proofs.number.number.Goals.{then-word-eq0-via-then-word-eq0, then-word-eq0-via-else-word-eq0+then-word-gt-MOST_DIGITS, then-b-lt48-via-then-b-lt48, then-b-lt48-via-else-b-lt48+then-b-gt57}
+use Rattle.text.proofs.number.number.Goals.{then-starts_with-via-then-starts_with, then-starts_with-via-else-starts_with+then-starts_with-2, then-word-gt1, else-word-gt1}
 
-pub returns-then-word-eq0 : goal.returns-then-word-eq0
-returns-then-word-eq0 c = (
-  c.ill_formed.ensures,
-  unwritten c.args.word.now (λ n h w. elim c.then-word-eq0.branch [
-    | then-word-eq0-via-then-word-eq0 v ↦ omega (arith, w.some)
-    | then-word-eq0-via-else-word-eq0+then-word-gt-MOST_DIGITS v ↦ omega (arith, w.short)
-  ]),
+pub returns-then-starts_with : goal.returns-then-starts_with
+returns-then-starts_with c = (
+  c.ill_formed-fault.ensures,
+  elim c.then-starts_with.branch [
+    | then-starts_with-via-then-starts_with w ↦ signed c.args.word.now (sym c.starts_with.ensures.value ∙ w.if-starts_with.true)
+    | then-starts_with-via-else-starts_with+then-starts_with-2 w ↦ elim w.if-word-gt1.branch [
+      | then-word-gt1 v ↦ padded c.args.word.now v.if-word-gt1.true (sym v.starts_with-then-word-gt1.ensures.value ∙ sym v.value-is ∙ w.if-starts_with-2.true)
+      | else-word-gt1 v ↦ (let l = ltb-true 1 (length c.args.word.now) (sym v.value-is ∙ w.if-starts_with-2.true) in absurd (let z : ⊥ = omega (arith, l, v.if-word-gt1.false) in z))
+    ]
+  ],
 )
 
-pub returns-then-word-gt1 : goal.returns-then-word-gt1
-returns-then-word-gt1 c = (
-  c.ill_formed-then-word-gt1.ensures,
-  unwritten c.args.word.now (λ n h w. omega (arith, w.first c.if-word-eq48.true)),
-)
-
-pub returns-then-b-lt48 : goal.returns-then-b-lt48
-returns-then-b-lt48 c = (
-  c.ill_formed-then-b-lt48.ensures,
-  unwritten c.args.word.now (no_digit c.args.word.now c.loop-b.b-index c.loop-b-test.true
-      (elim c.then-b-lt48.branch [
-        | then-b-lt48-via-then-b-lt48 v ↦ inl v.if-b-lt48.true
-        | then-b-lt48-via-else-b-lt48+then-b-gt57 v ↦ inr v.if-b-gt57.true
-      ])),
-)
-
-pub loop-b-preserved : goal.loop-b-preserved
-loop-b-preserved c =
+pub returns-in_err-text : goal.returns-in_err-text
+returns-in_err-text c =
     let ds = c.args.word.now in
-    let i = c.loop-b.b-index in
-    let inv = c.loop-b.invariant in (
-      value_step ds i c.loop-b.n c.loop-b-test.true c.if-b-lt48.false c.if-b-gt57.false inv.0,
-      digits_step ds i c.loop-b-test.true c.if-b-lt48.false c.if-b-gt57.false inv.1,
-      power_step c.loop-b.n i _ inv.2 (omega arith),
-    )
-
--- all the digits were read
-whole : (ds : List ℕ) (i n : ℕ) → length ds ≤ i → n ≡ digits_value 10 (take i ds) → n ≡ digits_value 10 ds
-whole ds i n l e = e ∙ ap (digits_value 10) (take_all i ds l)
-
-pub returns-then-n-gt-LARGEST : goal.returns-then-n-gt-LARGEST
-returns-then-n-gt-LARGEST c = (
-  c.ill_formed-then-n-gt-LARGEST.ensures,
-  unwritten c.args.word.now (λ n h w.
-      omega (arith, whole c.args.word.now c.loop-b.b-index c.loop-b.n c.loop-b-test.false c.loop-b.invariant.0, w.same)),
-)
+    err_at _ _ _ _ (err_from_is_err_and _ c.from_residual.ensures.1)
+    (mapped_err _ (λ f. (told f ≡ ill_formed c.args.line) × Unwritten ds) c.from_utf8.result _ _ c.in_err-text.was c.map_err.ensures.cases c.from_utf8.ensures.cases (λ e f n p. (search rules, foreign ds n.0)))
 
 pub returns : goal.returns
 returns c =
     let ds = c.args.word.now in
-    let e = whole ds c.loop-b.b-index c.loop-b.n c.loop-b-test.false c.loop-b.invariant.0 in
-    written ds
-    (subst (AllDigits 10) (take_all c.loop-b.b-index ds c.loop-b-test.false) c.loop-b.invariant.1)
-    (omega arith)
-    (λ z. omega arith)
-    (omega arith)
-    ∙ ap decimal (sym e)
+    let same = mapped_ok _ _ _ c.from_utf8.result _ _ c.in_ok-text.was c.map_err.ensures.cases c.from_utf8.ensures.cases in
+    mapped _ _ c.parse.result _ c.map_err-2.ensures.cases
+    (judged ds (sym c.starts_with.ensures.value ∙ c.if-starts_with.false) c.parse.result
+    (λ l. elim c.if-word-gt1.branch [
+      | then-word-gt1 v ↦ sym v.starts_with-then-word-gt1.ensures.value ∙ sym v.value-is ∙ c.if-starts_with-2.false
+      | else-word-gt1 v ↦ absurd (let z : ⊥ = omega (arith, l, v.if-word-gt1.false) in z)
+    ])
+    (subst (λ bs. ParsesUnsigned 32 10 bs c.parse.result) same.0 c.parse.ensures.value.0))
+    (λ e f n p. (search rules, n))

@@ -4,5 +4,4 @@ use Rattle.text.proofs.field.Fields.word.Goals as goal
 
 pub returns-clause-words : goal.returns-clause-words
 returns-clause-words c =
-    let f = c.find-end.ensures in
-    ap left c.in_ok-rest.ensures.ok_part ∙ parted_get c.in_ok-rest.rest.now c.find-end.result c.get-self.result f.before f.found c.get-self.ensures.lookup
+    ap left c.in_ok-rest.ensures.ok_part ∙ parted_get c.in_ok-rest.rest.now c.find.result c.unwrap_or-end.result c.get-self.result c.find.ensures c.unwrap_or-end.ensures c.get-self.ensures.lookup
