@@ -46,32 +46,37 @@ mod tests {
     use fabric::mesh::Mesh;
     use std::test::Fail;
 
-    // The latest ejection in a mesh of 3 by 2, or 1000 times the number of the refusal.
-    fn latest(tickets: usize, words: usize, epoch: usize, seed: usize) -> Result<usize, Fail> {
-        let mesh = Mesh::new(3, 2)?;
+    // The latest ejection in a mesh, or the number of the refusal.
+    fn latest(
+        mesh: &Mesh,
+        tickets: usize,
+        words: usize,
+        epoch: usize,
+        seed: usize,
+    ) -> Result<usize, u8> {
         let settings = Settings {
             tickets,
             words,
             epoch,
             seed,
         };
-        Ok(Limits::of(&mesh, settings).map_or_else(
-            |refusal| 1000 * usize::from(refusal.number()),
-            |limits| limits.latest,
-        ))
+        Limits::of(mesh, settings)
+            .map(|limits| limits.latest)
+            .map_err(|refusal| refusal.number())
     }
 
     #[test]
     fn boundaries(rt: HostRuntime) -> Result<(), Fail> {
-        assert_eq!(rt; latest(1, 2, 8, 1)?, 56);
-        assert_eq!(rt; latest(8, 4, 4096, 65535)?, 200704);
-        assert_eq!(rt; latest(1, 2, 7, 1)?, 2000);
-        assert_eq!(rt; latest(1, 2, 4097, 1)?, 2000);
-        assert_eq!(rt; latest(0, 2, 7, 0)?, 1000);
-        assert_eq!(rt; latest(9, 1, 8, 1)?, 1000);
-        assert_eq!(rt; latest(1, 5, 4096, 1)?, 1000);
-        assert_eq!(rt; latest(1, 2, 8, 0)?, 3000);
-        assert_eq!(rt; latest(1, 2, 8, 65536)?, 3000);
+        let mesh = Mesh::new(3, 2)?;
+        assert_eq!(rt; latest(&mesh, 1, 2, 8, 1), Ok(56));
+        assert_eq!(rt; latest(&mesh, 8, 4, 4096, 65535), Ok(200704));
+        assert_eq!(rt; latest(&mesh, 1, 2, 7, 1), Err(2));
+        assert_eq!(rt; latest(&mesh, 1, 2, 4097, 1), Err(2));
+        assert_eq!(rt; latest(&mesh, 0, 2, 7, 0), Err(1));
+        assert_eq!(rt; latest(&mesh, 9, 1, 8, 1), Err(1));
+        assert_eq!(rt; latest(&mesh, 1, 5, 4096, 1), Err(1));
+        assert_eq!(rt; latest(&mesh, 1, 2, 8, 0), Err(3));
+        assert_eq!(rt; latest(&mesh, 1, 2, 8, 65536), Err(3));
         Ok(())
     }
 }

@@ -64,33 +64,17 @@ mod tests {
     use fabric::mesh::Mesh;
     use std::test::Fail;
 
+    fn hop(node: usize, port: Port) -> Hop {
+        Hop { node, port }
+    }
+
     #[test]
     fn columns_first(rt: HostRuntime) -> Result<(), Fail> {
         let mesh = Mesh::new(3, 2)?;
         assert_eq!(rt; farthest(&mesh), (0, 5));
         let hops = path(&mesh, 0, 5, rt.alloc())?;
-        assert!(rt; hops.len() == 3);
-        assert_eq!(rt;
-            hops[0],
-            Hop {
-                node: 0,
-                port: Port::E,
-            }
-        );
-        assert_eq!(rt;
-            hops[1],
-            Hop {
-                node: 1,
-                port: Port::E,
-            }
-        );
-        assert_eq!(rt;
-            hops[2],
-            Hop {
-                node: 2,
-                port: Port::S,
-            }
-        );
+        let (one, two, three) = (hop(0, Port::E), hop(1, Port::E), hop(2, Port::S));
+        assert!(rt; hops.as_slice() == [one, two, three]);
         Ok(())
     }
 }

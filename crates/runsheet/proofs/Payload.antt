@@ -21,19 +21,6 @@ getD_figures ns i l =
     get_or-map shown (map number ns) i (number 0) [] (subst (λ n. i < n) (sym (length-map ns number)) l)
     ∙ ap shown (get_or-map number ns i 0 (number 0) l)
 
--- one number more
-pub figures_more : (ws : List (List ℕ)) (ns : List ℕ) (i n : ℕ) (now later : List (List ℕ)) → i < length ns →
-    ws ≡ figures (take i ns) ++ now → now ≡ decimal n ∷ later → ws ≡ figures (take (i + 1) (set ns i n)) ++ later
-figures_more ws ns i n now later l e h =
-    e ∙ ap (λ r. figures (take i ns) ++ r) h
-    ∙ sym (append_assoc (figures (take i ns)) (decimal n ∷ []) later)
-    ∙ ap (λ r. r ++ later) (sym (map_push shown (map number (take i ns)) (number n)) ∙ ap (map shown) (sym (map_push number (take i ns) n)) ∙ ap figures (sym (take_more_set ns i n l)))
-
-pub fits_more : (ns : List ℕ) (i n : ℕ) → i < length ns → n < 2 ^ 32 → AllByRecursion Fits (map number (take i ns)) → AllByRecursion Fits (map number (take (i + 1) (set ns i n)))
-fits_more ns i n l h a =
-    subst (λ xs. AllByRecursion Fits (map number xs)) (sym (take_more_set ns i n l))
-    (subst (AllByRecursion Fits) (sym (map_push number (take i ns) n)) (All-push Fits (map number (take i ns)) (number n) a h))
-
 -- i numbers were read, and what follows is the one that stands at i
 pub figures_next : (xs ns : List ℕ) (k i : ℕ) (rest more : List (List ℕ)) → i < k → k ≤ length xs → i ≤ length ns →
     figures (take i ns) ++ rest ≡ figures (take k xs) ++ more → rest ≡ decimal (get_or xs i 0) ∷ drop (i + 1) (figures (take k xs) ++ more)

@@ -93,7 +93,8 @@ impl Reader {
     {
         Reader {
             section: Section::Layout,
-            // a blank until its line is read, as all that follows; no default is derived for a variant with fields
+            // A blank until its line is read, as all that follows: the section says how far that is. No default is
+            // derived for a variant with fields.
             shape: Shape::Cabled { nodes: 0 },
             kind: SwitchKind::default(),
             run: Run::default(),
@@ -189,7 +190,7 @@ pub fn read(bytes: &[u8]) -> Result<Sheet, Fault>
     let mut lines = Lines::new(bytes)?;
     let mut reader = Reader::new();
     while !lines.is_empty() {
-        reader.step(&lines.line()?)?;
+        reader.step(&lines.next_line()?)?;
     }
     match reader.section {
         Section::End => Ok(Sheet::new(

@@ -15,8 +15,7 @@ const MOST_WORDS: u32 = 4;
 
 // The next field, the name of a kind of switch. Compared with fixed byte strings, a form of the project.
 fn kind(fields: &mut Fields) -> Result<SwitchKind, Fault>
-    ensures words { Begins kind_field Any (words fields.old) (words fields.new) fields.old.line result }
-    ensures line { fields.new.line ≡ fields.old.line }
+    ensures { Begins kind_field Any fields.old fields.new result }
 {
     match fields.word()? {
         w if is(w, b"chipper") => Ok(SwitchKind::Chipper),
@@ -47,8 +46,7 @@ pub(crate) fn cables(fields: &mut Fields, shape: Shape) -> Result<usize, Fault>
 // The words of a packet, `count` of them.
 fn payload(fields: &mut Fields, count: usize) -> Result<[u32; 4], Fault>
     requires { count ≤ 4 }
-    ensures words { Begins (λ ns. map number (take count ns)) (λ ns. length ns ≡ 4) (words fields.old) (words fields.new) fields.old.line result }
-    ensures line { fields.new.line ≡ fields.old.line }
+    ensures { Begins (λ ns. map number (take count ns)) (λ ns. length ns ≡ 4) fields.old fields.new result }
 {
     let mut words = [0; 4];
     // By index: after a loop over `&mut words[..count]` a proof knows the length of `words`, and not what it holds.

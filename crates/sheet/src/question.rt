@@ -18,7 +18,7 @@ fn count(lines: &mut Lines, shape: Shape) -> Result<usize, Fault>
 {
     match shape {
         Shape::Mesh { .. } => Ok(0),
-        Shape::Cabled { .. } => rows::cables(&mut lines.line()?),
+        Shape::Cabled { .. } => rows::cables(&mut lines.next_line()?),
     }
 }
 
@@ -29,7 +29,7 @@ fn cables(lines: &mut Lines, count: usize) -> Result<Batch<Cable, MOST_CABLES>, 
 {
     let mut cables = Batch::new(Cable::default());
     for _ in 0..count {
-        let cable = shared::cable(&mut lines.line()?)?;
+        let cable = shared::cable(&mut lines.next_line()?)?;
         cables.push(cable).unwrap();
     }
     Ok(cables)
@@ -41,8 +41,8 @@ pub fn read(bytes: &[u8]) -> Result<Question, Fault>
     ensures { MatchResult result (λ q. (length bytes.now ≤ 65536) × Formed 128 (asked q) × (bytes.now ≡ asked_text (asked q))) (λ f. Refused bytes.now f) }
 {
     let mut lines = Lines::new(bytes)?;
-    let shape = rows::shape(&mut lines.line()?)?;
-    let run = rows::run(&mut lines.line()?)?;
+    let shape = rows::shape(&mut lines.next_line()?)?;
+    let run = rows::run(&mut lines.next_line()?)?;
     let count = count(&mut lines, shape)?;
     let cables = cables(&mut lines, count)?;
     lines.end()?;

@@ -23,10 +23,8 @@ pub(crate) fn shape(fields: &mut Fields) -> Result<Shape, Fault>
 pub(crate) fn run(fields: &mut Fields) -> Result<Run, Fault>
     ensures { Reads run_line Brief (words fields.old) fields.old.line result }
 {
-    match fields.word()? {
-        w if is(w, b"run") => shared::run(fields),
-        _ => Err(fields.fault()),
-    }
+    fields.expect(b"run")?;
+    shared::run(fields)
 }
 
 // The rest of the line that says how many cables follow.
@@ -43,8 +41,6 @@ fn count(fields: &mut Fields) -> Result<usize, Fault>
 pub(crate) fn cables(fields: &mut Fields) -> Result<usize, Fault>
     ensures { Counts cables_line 128 (words fields.old) fields.old.line result }
 {
-    match fields.word()? {
-        w if is(w, b"cables") => count(fields),
-        _ => Err(fields.fault()),
-    }
+    fields.expect(b"cables")?;
+    count(fields)
 }

@@ -4,9 +4,10 @@ use Rattle.std.specs.List.{AllByRecursion}
 use Rattle.std.specs.Option.{ok_or}
 use Rattle.std.specs.Result.{IsErrAnd}
 use Rattle.text.specs.Texts.{Field, Fits, shown}
-use Rattle.text.specs.Fields.{Unlike, Reads, Begins}
+use Rattle.text.specs.Fields.{words, Unlike, Reads, Begins}
 use Rattle.text.specs.Faults.{told, ill_formed}
 use Rattle.text.specs.declared.fault.Fault.{Fault}
+use Rattle.text.specs.declared.field.Fields.{Fields}
 
 -- the result is the fault that was met
 abbrev pub Passes : {A : Type 0} → Result A Fault → Fault → Type 0
@@ -40,9 +41,9 @@ pub passed : {A : Type 0} (line : A → List Field) (P : A → Type 0) (ws : Lis
     Passes r f → told f ≡ ill_formed k → Unlike line P ws → Reads line P ws k r
 passed line P ws k r f p at none = err_at _ _ r f p (at, none)
 
-pub opened : {A : Type 0} (part : A → List Field) (P : A → Type 0) (ws more : List (List ℕ)) (k : ℕ) (r : Result A Fault) (f : Fault) →
-    Passes r f → told f ≡ ill_formed k → ((x : A) (vs : List (List ℕ)) → AllByRecursion Fits (part x) → P x → ws ≡ map shown (part x) ++ vs → ⊥) → Begins part P ws more k r
-opened part P ws more k r f p at none = err_at _ _ r f p (at, none)
+pub opened : {A : Type 0} (part : A → List Field) (P : A → Type 0) (old new : Fields) (r : Result A Fault) (f : Fault) →
+    Passes r f → told f ≡ ill_formed old.line → ((x : A) (vs : List (List ℕ)) → AllByRecursion Fits (part x) → P x → words old ≡ map shown (part x) ++ vs → ⊥) → new.line ≡ old.line → Begins part P old new r
+opened part P old new r f p at none line = (err_at _ _ r f p (at, none), line)
 
 -- what follows the first of a list
 pub rest_of : {X : Type 0} {x y : X} {xs ys : List X} → x ∷ xs ≡ y ∷ ys → xs ≡ ys

@@ -19,6 +19,10 @@ Unlike {A} line P ws = (x : A) → AllByRecursion Fits (line x) → P x → ws �
 abbrev pub Reads : {A : Type 0} → (A → List Field) → (A → Type 0) → List (List ℕ) → ℕ → Result A Fault → Type 0
 Reads {A} line P ws k r = MatchResult r (λ x. (ws ≡ map shown (line x)) × AllByRecursion Fits (line x) × P x) (λ f. (told f ≡ ill_formed k) × Unlike line P ws)
 
--- the words begin with those of the value, and `more` follow; or with those of no value that P holds of
-abbrev pub Begins : {A : Type 0} → (A → List Field) → (A → Type 0) → List (List ℕ) → List (List ℕ) → ℕ → Result A Fault → Type 0
-Begins {A} part P ws more k r = MatchResult r (λ x. (ws ≡ map shown (part x) ++ more) × AllByRecursion Fits (part x) × P x) (λ f. (told f ≡ ill_formed k) × ((x : A) (vs : List (List ℕ)) → AllByRecursion Fits (part x) → P x → ws ≢ map shown (part x) ++ vs))
+-- the words begin with those of the value, and the new ones follow; or with those of no value that P holds of. The line stays
+abbrev pub Begins : {A : Type 0} → (A → List Field) → (A → Type 0) → Fields → Fields → Result A Fault → Type 0
+Begins {A} part P old new r =
+    MatchResult r
+    (λ x. (words old ≡ map shown (part x) ++ words new) × AllByRecursion Fits (part x) × P x)
+    (λ f. (told f ≡ ill_formed old.line) × ((x : A) (vs : List (List ℕ)) → AllByRecursion Fits (part x) → P x → words old ≢ map shown (part x) ++ vs))
+    × (new.line ≡ old.line)

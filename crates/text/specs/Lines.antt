@@ -19,7 +19,10 @@ run_line r = word (codes "run") ∷ number r.tickets ∷ number r.words ∷ numb
 abbrev pub cables_line : ℕ → List Field
 cables_line n = word (codes "cables") ∷ number n ∷ []
 
--- the fields that a number, a port and a slot have in a line
+-- the fields that a fixed word, a number, a port and a slot have in a line
+abbrev pub fixed_field : List ℕ → Unit {0} → List Field
+fixed_field w u = word w ∷ []
+
 abbrev pub number_field : ℕ → List Field
 number_field n = number n ∷ []
 

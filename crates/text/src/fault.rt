@@ -34,7 +34,7 @@ pub struct Fault {
 
 impl Fault {
     // The text is too long.
-    pub fn too_long() -> Fault
+    pub(crate) fn too_long() -> Fault
         ensures { told result ≡ too_long }
     {
         Fault {
@@ -45,7 +45,7 @@ impl Fault {
     }
 
     // The line is not of its form, lacks its end, is missing or is one too many.
-    pub fn ill_formed(line: u32) -> Fault
+    pub(crate) fn ill_formed(line: u32) -> Fault
         ensures { told result ≡ ill_formed line }
     {
         Fault {
@@ -56,7 +56,7 @@ impl Fault {
     }
 
     // The line's count exceeds its limit.
-    pub fn too_many(line: u32) -> Fault
+    pub(crate) fn too_many(line: u32) -> Fault
         ensures { told result ≡ too_many line }
     {
         Fault {

@@ -4,20 +4,20 @@ ghost use Rattle.std.specs.List.{position};
 ghost use Rattle.text.specs.Faults.{told, ill_formed, too_many};
 ghost use Rattle.text.specs.Texts.{parted, Any};
 ghost use Rattle.text.specs.Fields.{words, Begins};
-ghost use Rattle.text.specs.Lines.{number_field, port_field};
+ghost use Rattle.text.specs.Lines.{fixed_field, number_field, port_field};
 
 use super::fault::Fault;
 use super::number::number;
 use fabric::parts::Port;
 
-// The index of the first `b` of `text`.
+// The index of the first `b` of `text`, if there is one.
 pub(crate) fn find(text: &[u8], b: u8) -> Option<usize>
     ensures { result ≡ position (λ x. x == b) text.now }
 {
     text.iter().position(|x| *x == b)
 }
 
-// For guards: a match on fixed bytes is checked byte by byte.
+// For guards. A pattern of bytes is checked byte by byte, and what `==` says of slices is no fact of equality yet.
 pub fn is(word: &[u8], fixed: &[u8]) -> bool
     ensures { Decides result (word.now ≡ fixed.now) }
 {
@@ -25,7 +25,6 @@ pub fn is(word: &[u8], fixed: &[u8]) -> bool
 }
 
 // What is left of line `line` to read: nothing once its last field is read.
-// That the line's number stays is a clause of each method, as of a call by `&mut` nothing else says it.
 #[derive(Clone, Copy)]
 pub struct Fields<'a> {
     rest: Option<&'a [u8]>,
@@ -54,10 +53,20 @@ impl<'a> Fields<'a> {
         Ok(&rest[..end])
     }
 
+    // The next field, which has to be this word.
+    pub fn expect(&mut self, fixed: &[u8]) -> Result<(), Fault>
+        ensures { Begins (fixed_field fixed.now) Any self.old self.new result }
+    {
+        let word = self.word()?;
+        if !is(word, fixed) {
+            return Err(self.fault());
+        }
+        Ok(())
+    }
+
     // The next field, a number.
     pub fn number(&mut self) -> Result<u32, Fault>
-        ensures words { Begins number_field Any (words self.old) (words self.new) self.old.line result }
-        ensures line { self.new.line ≡ self.old.line }
+        ensures { Begins number_field Any self.old self.new result }
     {
         let word = self.word()?;
         number(word, self.line)
@@ -65,8 +74,7 @@ impl<'a> Fields<'a> {
 
     // The next field, a port's letter. Compared with fixed byte strings, a form of the project.
     pub fn port(&mut self) -> Result<Port, Fault>
-        ensures words { Begins port_field Any (words self.old) (words self.new) self.old.line result }
-        ensures line { self.new.line ≡ self.old.line }
+        ensures { Begins port_field Any self.old self.new result }
     {
         match self.word()? {
             w if is(w, b"N") => Ok(Port::N),

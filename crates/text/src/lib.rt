@@ -4,6 +4,6 @@
 pub mod fault;
 pub mod field;
 pub mod lines;
-pub mod number;
+mod number;
 pub mod parts;
 pub mod rows;

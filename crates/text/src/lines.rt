@@ -32,7 +32,7 @@ impl<'a> Lines<'a> {
     }
 
     // The fields of the next line, if it has its end.
-    pub fn line(&mut self) -> Result<Fields<'a>, Fault>
+    pub fn next_line(&mut self) -> Result<Fields<'a>, Fault>
         ensures { MatchResult result (λ x. Lined self.old.rest.now (words x) self.new.rest.now × (x.line ≡ self.old.read + 1) × (self.new.read ≡ self.old.read + 1)) (λ f. (told f ≡ ill_formed (self.old.read + 1)) × Free 10 self.old.rest.now) }
     {
         let rest = self.rest;
@@ -48,7 +48,7 @@ impl<'a> Lines<'a> {
         self.rest.is_empty()
     }
 
-    // The line after those that were read is not of its form, lacks its end, is missing or is one too many.
+    // The line after those that were read lacks its end, is missing or is one too many.
     pub fn fault(&self) -> Fault
         ensures { told result ≡ ill_formed (self.now.read + 1) }
     {

@@ -6,7 +6,7 @@ use super::fault::Fault;
 use std::str;
 
 // The number of 32 bits that `word` writes, for a word of line `line`.
-pub fn number(word: &[u8], line: u32) -> Result<u32, Fault>
+pub(crate) fn number(word: &[u8], line: u32) -> Result<u32, Fault>
     ensures { MatchResult result (λ n. word.now ≡ decimal n) (λ f. (told f ≡ ill_formed line) × ((n : ℕ) → n < 2 ^ 32 → word.now ≢ decimal n)) }
 {
     let fault = Fault::ill_formed(line);

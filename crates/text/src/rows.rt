@@ -61,8 +61,7 @@ pub fn count(fields: &mut Fields) -> Result<usize, Fault>
 
 // A node and a port, with which a line begins or goes on.
 fn slot(fields: &mut Fields) -> Result<Slot, Fault>
-    ensures words { Begins slot_fields Any (words fields.old) (words fields.new) fields.old.line result }
-    ensures line { fields.new.line ≡ fields.old.line }
+    ensures { Begins slot_fields Any fields.old fields.new result }
 {
     let node = fields.number()? as usize;
     let port = fields.port()?;

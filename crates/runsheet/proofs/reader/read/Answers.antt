@@ -10,18 +10,18 @@ use Rattle.text.proofs.Stopping.{is_line, onward}
 use Rattle.runsheet.proofs.Stopped.{refused, unended, missing, finished}
 use Rattle.runsheet.proofs.reader.read.Goals as goal
 
-pub returns-in_err-line : goal.returns-in_err-line
-returns-in_err-line c =
+pub returns-in_err-next_line : goal.returns-in_err-next_line
+returns-in_err-next_line c =
     let bs = c.args.bytes.now in
     let i = c.loop-reader.invariant in
-    let h = c.in_err-line.ensures in
-    err_at _ (Refused bs) _ _ (err_from_is_err_and _ c.from_residual-in_err-line.ensures.1)
+    let h = c.in_err-next_line.ensures in
+    err_at _ (Refused bs) _ _ (err_from_is_err_and _ c.from_residual-in_err-next_line.ensures.1)
     (unended (draft c.loop-reader.reader) bs c.loop-reader.lines.rest.now i.0 i.1 c.in_ok-lines.ensures.0 _ c.loop-reader.lines.read i.2 h.0 h.1 (λ z. false≢true (sym c.loop-reader-test.true ∙ c.is_empty.ensures.1 z)))
 
 pub loop-reader-preserved : goal.loop-reader-preserved
 loop-reader-preserved c =
     let i = c.loop-reader.invariant in
-    let n = c.in_ok-line.ensures in
+    let n = c.in_ok-next_line.ensures in
     let s = c.in_ok-step.ensures in
     let A = lines_read (draft c.loop-reader.reader) in
     let B = lines_read (draft c.step.new.self) in (
@@ -34,9 +34,9 @@ pub returns-in_err-step : goal.returns-in_err-step
 returns-in_err-step c =
     let bs = c.args.bytes.now in
     let i = c.loop-reader.invariant in
-    let n = c.in_ok-line.ensures in
+    let n = c.in_ok-next_line.ensures in
     err_at _ (Refused bs) _ _ (err_from_is_err_and _ c.from_residual-in_err-step.ensures.1)
-    (refused (draft c.loop-reader.reader) bs c.loop-reader.lines.rest.now i.0 i.1 c.in_ok-lines.ensures.0 _ c.loop-reader.lines.read i.2 _ _ n.0 (subst (λ k. Refuses (draft c.loop-reader.reader) k (words c.in_ok-line.field-0) c.in_err-step.field-0.0) n.1 c.in_err-step.ensures))
+    (refused (draft c.loop-reader.reader) bs c.loop-reader.lines.rest.now i.0 i.1 c.in_ok-lines.ensures.0 _ c.loop-reader.lines.read i.2 _ _ n.0 (subst (λ k. Refuses (draft c.loop-reader.reader) k (words c.in_ok-next_line.field-0) c.in_err-step.field-0.0) n.1 c.in_err-step.ensures))
 
 pub returns-in_default : goal.returns-in_default
 returns-in_default c =

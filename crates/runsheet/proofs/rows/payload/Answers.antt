@@ -11,14 +11,11 @@ returns-in_err-words c =
     let i = c.loop-i.i in
     let k = c.args.count in
     let inv = c.loop-i.invariant in
-    record {
-      words =
-          opened (λ ns. map number (take k ns)) (λ ns. length ns ≡ 4) _ _ _ _ _ (err_from_is_err_and _ c.from_residual.ensures.1)
-          (c.in_err-words.ensures.words.0 ∙ ap ill_formed inv.3)
-          (λ xs more fits p e.
-          c.in_err-words.ensures.words.1 (get_or xs i 0) (drop (i + 1) (figures (take k xs) ++ more))
-          (fits_at xs k i c.loop-i-test.true (omega arith) fits, tt)
-          tt
-          (figures_next xs c.loop-i.words k i _ more c.loop-i-test.true (omega arith) (omega (arith, inv.2)) (sym inv.0 ∙ e)));
-      line = c.in_err-words.ensures.line ∙ inv.3;
-    }
+    opened (λ ns. map number (take k ns)) (λ ns. length ns ≡ 4) c.args.fields.now c.number.new.self _ _ (err_from_is_err_and _ c.from_residual.ensures.1)
+    (c.in_err-words.ensures.0.0 ∙ ap ill_formed inv.3)
+    (λ xs more fits p e.
+    c.in_err-words.ensures.0.1 (get_or xs i 0) (drop (i + 1) (figures (take k xs) ++ more))
+    (fits_at xs k i c.loop-i-test.true (omega arith) fits, tt)
+    tt
+    (figures_next xs c.loop-i.words k i _ more c.loop-i-test.true (omega arith) (omega (arith, inv.2)) (sym inv.0 ∙ e)))
+    (c.in_err-words.ensures.1 ∙ inv.3)

@@ -10,8 +10,8 @@ use Rattle.text.proofs.rows.mesh.Goals as goal
 
 pub returns-in_err-height : goal.returns-in_err-height
 returns-in_err-height c =
-    passed shape_line Any _ _ _ _ (err_from_is_err_and _ c.from_residual-in_err-height.ensures.1) (c.in_err-height.ensures.words.0 ∙ ap ill_formed c.in_ok-width.ensures.line)
+    passed shape_line Any _ _ _ _ (err_from_is_err_and _ c.from_residual-in_err-height.ensures.1) (c.in_err-height.ensures.0.0 ∙ ap ill_formed c.in_ok-width.ensures.1)
     (elim [
-      | Mesh w h ↦ λ fits p e. c.in_err-height.ensures.words.1 h [] fits.1.1 tt (after c.in_ok-width.ensures.words.0 (rest_of e))
+      | Mesh w h ↦ λ fits p e. c.in_err-height.ensures.0.1 h [] fits.1.1 tt (after c.in_ok-width.ensures.0.0 (rest_of e))
       | Cabled n ↦ λ fits p e. mesh_apart _ _ e
     ])

@@ -5,7 +5,7 @@ use Rattle.text.specs.Faults.{told, ill_formed}
 use Rattle.text.proofs.Exits.{err_at, missed}
 use Rattle.text.proofs.Parting.{none_at}
 use Rattle.text.proofs.Stopping.{lined}
-use Rattle.text.proofs.lines.Lines.line.Goals as goal
+use Rattle.text.proofs.lines.Lines.next_line.Goals as goal
 
 pub returns-in_err-end : goal.returns-in_err-end
 returns-in_err-end c =
