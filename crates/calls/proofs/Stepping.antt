@@ -1,17 +1,18 @@
 -- The steps of a node's work on four places.
-use Rattle.std.proofs.Common.{◌≡◌, ℕ, ◌+◌, ◌*◌, ◌<◌, ◌⊎◌, List, [], ◌∷◌, length, get_or, set, None, Option, sym, refl, ap, ◌∙◌, subst, inl, inr, add-one, arith}
-use Rattle.std.proofs.lemmas.List.{get_or-set_same, get_or-set_other}
-use Rattle.std.proofs.lemmas.Bool.{cases_eq}
+use Rattle.std.proofs.Common.{◌≡◌, ℕ, ◌+◌, ◌*◌, ◌<◌, ◌⊎◌, List, [], ◌∷◌, length, get_or, set, replicate, is_some, false, Some, None, Option, sym, refl, ap, ◌∙◌, subst, inl, inr, add-one, arith}
+use Rattle.std.proofs.lemmas.List.{get_or-replicate, get_or-set_same, get_or-set_other}
+use Rattle.std.proofs.lemmas.Bool.{cases_eq, false≢true}
 use Rattle.fabric.specs.declared.parts.Port.{Port}
 use Rattle.fabric.specs.declared.parts.Port.TheVariants.{N, E, S, W}
 use Rattle.fabric.specs.declared.parts.Slot.{Slot}
 use Rattle.fabric.specs.declared.parts.Flit.{Flit}
 use Rattle.fabric.specs.Layouts.{Plan, Lawful}
 use Rattle.fabric.specs.Ports.{place_of}
+use Rattle.fabric.proofs.Following.{far_exists}
 use Rattle.switch.specs.Switches.{at}
 use Rattle.network.specs.Runs.{port_of}
 use Rattle.network.specs.Computed.{due, better, best}
-use Rattle.calls.specs.Steps.{far_place, best_upto, SpreadUpto}
+use Rattle.calls.specs.Steps.{far_place, best_upto, Spread, SpreadUpto, Unsent}
 use Rattle.calls.proofs.Looking.{place_of_port}
 use Rattle.calls.proofs.Setting.{place_below}
 
@@ -91,3 +92,40 @@ best_step g n k xs found r p o h e f q d =
     ∙ ap (λ x. better g (best_upto g (λ y. due n (at xs y)) k) x o) q
     ∙ ap (λ x. better g (best_upto g (λ y. due n (at xs y)) k) (port_of k) x) d
     ∙ best_more g n k xs h
+
+no_flit : (o : Option Flit) → is_some o ≡ false → o ≡ None
+no_flit None e = refl
+no_flit (Some f) e = absurd (false≢true (sym e))
+
+-- a port at which nothing leaves has sent, since nothing is at its far end yet
+pub spread_past : (p : Plan) → Lawful p → (n : ℕ) → n < p.nodes → (leaving before : List (Option Flit)) → Unsent p n before → (k : ℕ) (after : List (Option Flit)) → k < 4 →
+    is_some (get_or leaving k None) ≡ false → SpreadUpto p n k leaving before after → SpreadUpto p n (k + 1) leaving before after
+spread_past p law n hn leaving before none k after h e u =
+    let here : get_or after (far_place p n (port_of k)) None ≡ at leaving (port_of k) =
+    u.rest (far_place p n (port_of k)) (λ q b z. let s = ap place_of (far_same p law n n (port_of k) q hn hn z).1 in let m = place_of_port k h in absurd (omega arith))
+    ∙ none n (port_of k) (omega arith) hn ∙ sym (no_flit (get_or leaving k None) e) ∙ sym (at_port leaving k h) in
+    let go : (q : Port) → place_of q < k + 1 → (place_of q ≡ k) ⊎ (place_of q ≡ k → ⊥) → get_or after (far_place p n q) None ≡ at leaving q =
+    λ q b. elim [
+      | inl s ↦ let t : port_of k ≡ q = ap port_of (sym s) ∙ port_of_place q in subst (λ (r : Port). get_or after (far_place p n r) None ≡ at leaving r) t here
+      | inr s ↦ u.sent q (omega arith)
+    ] in
+    record {
+      sent = λ q b. go q b (cases_eq (place_of q) k);
+      rest = λ j b. u.rest j (λ q c. b q (omega arith));
+    }
+
+-- where no flit leaves, all is sent
+pub spread_none : (p : Plan) (n : ℕ) → n < p.nodes → (leaving slots : List (Option Flit)) → Unsent p n slots → ((q : Port) → at leaving q ≡ None) → Spread p n leaving slots slots
+spread_none p n hn leaving slots none e = record { sent = λ q. none n q (omega arith) hn ∙ sym (e q); rest = λ k b. refl }
+
+far_below : (p : Plan) → Lawful p → (n : ℕ) (q : Port) → n < p.nodes → far_place p n q < 4 * p.nodes
+far_below p law n q h = let a = far_exists p law n q h in let b = place_below (p.far n q).port in omega arith
+
+-- before the first node has sent
+pub unsent_all : (p : Plan) → Lawful p → Unsent p 0 (replicate 256 None)
+unsent_all p law m q h l = let a = far_below p law m q l in let b = law.few_nodes in get_or-replicate 256 (far_place p m q) None None (omega arith)
+
+-- what a node sends arrives at the far end of no later node
+pub unsent_more : (p : Plan) → Lawful p → (n : ℕ) → n < p.nodes → (leaving before after : List (Option Flit)) → Spread p n leaving before after → Unsent p n before → Unsent p (n + 1) after
+unsent_more p law n hn leaving before after s none m q h l =
+    s.rest (far_place p m q) (λ r z. let e = (far_same p law m n q r l hn z).0 in absurd (omega arith)) ∙ none m q (omega arith) l

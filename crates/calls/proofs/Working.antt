@@ -23,9 +23,9 @@ use Rattle.network.proofs.Cycling.{off_packet, off_waiting, off_sent, keeps_pack
 use Rattle.calls.specs.declared.ticket.Ticket.{Ticket}
 use Rattle.calls.specs.declared.tables.Tables.{Tables}
 use Rattle.calls.specs.Records.{Draws}
-use Rattle.calls.specs.Steps.{wished, far_place, Spread}
+use Rattle.calls.specs.Steps.{wished, far_place}
 use Rattle.calls.specs.Follow.{slot_of, Records, Queued}
-use Rattle.calls.specs.Midway.{Reached, Between, Took, TakesOff, Own, Let, Enters, NodeWorks}
+use Rattle.calls.specs.Midway.{Reached, Between, Took, TakesOff, Own, Let, Enters, Sent, NodeWorks}
 use Rattle.calls.proofs.Putting.{put_length, put_more}
 use Rattle.calls.proofs.Stepping.{far_same}
 use Rattle.calls.proofs.Showing.{invariant}
@@ -145,12 +145,9 @@ module _ (F : Fabric) (P : Settings) (s : State) where
       λ k. record { places = ep k; wishes = w k; golden = eg k; draws = d k }
 
 module _ (F : Fabric) (law : Lawful F.plan) (i i₁ i₂ i₃ : Tables) (n g : ℕ) (hn : n < F.plan.nodes) (before after : List (Option Flit)) (u u₁ u₂ : Queue Event) (off : ℕ)
-    (left_places places routed : List (Option Flit)) (wishes : List (Option Port)) (ds : List Bool)
+    (left_places places : List (Option Flit)) (ds : List Bool)
     (takes : TakesOff i i₁ n g u u₁ left_places off) (enters : Enters i₁ i₂ n u₁ u₂ left_places places)
-    (drew : Draws i₂ i₃ ds)
-    (wish : wishes ≡ in_slot_order (λ p. wished F.plan n (at places p)))
-    (route : routed ≡ turned (F.turn (record { places = places; wishes = wishes; golden = g; draws = ds })) places)
-    (spread : Spread F.plan n routed before after) where
+    (drew : Draws i₂ i₃ ds) (sent : Sent F n places g ds before after) where
   abbrev P : Settings
   P = i.settings
 
@@ -182,19 +179,18 @@ module _ (F : Fabric) (law : Lawful F.plan) (i i₁ i₂ i₃ : Tables) (n g : �
             drew.register ∙ ap shifted (enters.keeps.register ∙ takes.keeps.register ∙ m.drawn) in
             let e1 : suc (s.cycles * F.plan.nodes + n) ≡ s.cycles * F.plan.nodes + n + 1 = omega arith in
             let e2 : suc (s.cycles * F.plan.nodes + n) ≡ s.cycles * F.plan.nodes + (n + 1) = omega arith in
-            let handed_is = handed F P s n g i₃.register places wishes ds gold let_in.gives wish (drawn ∙ ap (register P.seed) e1) drew.bits in
-            let leaves : routed ≡ turned (F.turn (handing F P s n)) (handing F P s n).places =
-            route ∙ ap (λ (h : Handing). turned (F.turn h) h.places) handed_is in
+            let handed_is = handed F P s n g i₃.register places _ ds gold let_in.gives refl (drawn ∙ ap (register P.seed) e1) drew.bits in
+            let leaves = ap (λ (h : Handing). turned (F.turn h) h.places) handed_is in
             let log_is : entered_at n (entering F P s n) ++ half_log F P s n ≡ grown F P s (n + 1) = sym (ap (grown F P s) (add-one n) ∙ grown_more F P s n) in
             let sent_now : (k : ℕ) (p : Port) → k < n + 1 → (k ≡ n) ⊎ (k ≡ n → ⊥) →
             get_or after (far_place F.plan k p) None ≡ leaving F P s k p =
             λ k p h. elim [
               | inl e ↦
                   subst (λ (x : ℕ). get_or after (far_place F.plan x p) None ≡ leaving F P s x p) (sym e)
-                  (spread.sent p ∙ ap (λ xs. at xs p) leaves)
+                  (sent.sent p ∙ ap (λ xs. at xs p) leaves)
               | inr d ↦
                   let lt : k < n = omega arith in
-                  spread.rest (far_place F.plan k p) (λ r z. d (far_same F.plan law k n p r (let y : k < F.plan.nodes = omega arith in y) hn z).0) ∙ m.sent k p lt
+                  sent.rest (far_place F.plan k p) (λ r z. d (far_same F.plan law k n p r (let y : k < F.plan.nodes = omega arith in y) hn z).0) ∙ m.sent k p lt
             ] in
             record {
               settings = drew.settings ∙ same_2;

@@ -1,8 +1,9 @@
 -- A network in the midst of a cycle: how the tables stand between two steps, and after the first n nodes.
-use Rattle.std.specs.Prelude.{◌≡◌, ℕ, ◌+◌, ◌*◌, ◌/◌, ◌<◌, ◌≤◌, List, ◌++◌, length, None, Option, slice_index_or}
+use Rattle.std.specs.Prelude.{◌≡◌, ℕ, ◌+◌, ◌*◌, ◌/◌, ◌<◌, ◌≤◌, Bool, List, ◌++◌, length, None, Option, slice_index_or}
 use Rattle.fabric.specs.declared.parts.Port.{Port}
 use Rattle.fabric.specs.declared.parts.Flit.{Flit}
 use Rattle.fabric.specs.Layouts.{Lawful}
+use Rattle.switch.specs.Switches.{at, handed, turned}
 use Rattle.line.specs.Queues.{Queue}
 use Rattle.bounds.specs.declared.settings.Settings.{Settings}
 use Rattle.bounds.specs.SetUp.{all_tickets}
@@ -14,7 +15,7 @@ use Rattle.network.specs.Runs.{Call, Leads, put_all, told, count_off}
 use Rattle.network.specs.Computed.{taken, left, entering, ready, leaving, done}
 use Rattle.calls.specs.declared.tables.Tables.{Tables}
 use Rattle.calls.specs.Records.{lines, Keeps}
-use Rattle.calls.specs.Steps.{far_place}
+use Rattle.calls.specs.Steps.{wished, far_place, Spread}
 use Rattle.calls.specs.Follow.{slot_of, Records, Queued, Shows}
 
 -- a run leads to this state
@@ -58,6 +59,12 @@ pub record Enters (i j : Tables) (n : ℕ) (q r : Queue Event) (before after : L
   pub keeps : Keeps i j
   pub lets : (F : Fabric) (s : State) (l : Log) → Lawful F.plan → Reached F i.settings s → n < F.plan.nodes → Own i.settings s n l →
       Between F s l i → before ≡ in_slot_order (left F i.settings s n) → q.held < length q.memory → Let F i.settings s n l j q r after
+
+-- a node's places are sent on, as the switch turns them
+abbrev pub Sent : Fabric → ℕ → List (Option Flit) → ℕ → List Bool → List (Option Flit) → List (Option Flit) → Type 0
+Sent F n places g ds before after =
+    let wishes = in_slot_order (λ p. wished F.plan n (at places p)) in
+    Spread F.plan n (turned (F.turn (handed places wishes g ds)) places) before after
 
 -- after the first n nodes
 pub record Midway (F : Fabric) (P : Settings) (s : State) (n : ℕ) (i : Tables) (arrived : List (Option Flit)) (q r : Queue Event) (off : ℕ) : Type 0 where

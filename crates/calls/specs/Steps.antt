@@ -1,5 +1,5 @@
 -- What the steps of a node's work do to four places, and to the slots.
-use Rattle.std.specs.Prelude.{◌≡◌, ℕ, ◌+◌, ◌*◌, ◌<◌, List, Some, None, Option, ◌≢◌, slice_index_or}
+use Rattle.std.specs.Prelude.{◌≡◌, ℕ, ◌+◌, ◌*◌, ◌<◌, ◌≤◌, List, Some, None, Option, ◌≢◌, slice_index_or}
 use Rattle.fabric.specs.declared.parts.Port.{Port}
 use Rattle.fabric.specs.declared.parts.Flit.{Flit}
 use Rattle.fabric.specs.Layouts.{Plan}
@@ -19,6 +19,10 @@ far_place p n q = 4 * (p.far n q).node + place_of (p.far n q).port
 pub record Spread (p : Plan) (n : ℕ) (leaving before after : List (Option Flit)) : Type 0 where
   pub sent : (q : Port) → slice_index_or after (far_place p n q) None ≡ at leaving q
   pub rest : (k : ℕ) → ((q : Port) → k ≢ far_place p n q) → slice_index_or after k None ≡ slice_index_or before k None
+
+-- nothing is sent yet to the far ends of the nodes from n on
+abbrev pub Unsent : Plan → ℕ → List (Option Flit) → Type 0
+Unsent p n slots = (m : ℕ) (q : Port) → n ≤ m → m < p.nodes → slice_index_or slots (far_place p m q) None ≡ None
 
 -- the best of the first k places
 abbrev pub best_upto : ℕ → (Port → Option Flit) → ℕ → Option (Port × Flit)

@@ -1,5 +1,5 @@
 // A network of a layout and a switch, and the calls that it answers.
-ghost use Rattle.std.specs.Prelude.{◌≡◌, ◌<◌, true};
+ghost use Rattle.std.specs.Prelude.{◌≡◌, ◌+◌, ◌<◌, true};
 ghost use Rattle.fabric.specs.Refusals.{shown};
 ghost use Rattle.fabric.specs.Verdicts.Verdict.{granted};
 ghost use Rattle.line.specs.Lines.{queue_of, SameLender};
@@ -8,7 +8,8 @@ ghost use Rattle.bounds.specs.Lateness.{latest};
 ghost use Rattle.network.specs.Runs.Call.{offer as offers, cycle as cycles, collect as collects, look as looks};
 ghost use Rattle.network.specs.Runs.Outcome.{offering, cycling, collecting, looking};
 ghost use Rattle.calls.specs.Follow.{declined, Promised, Begins, OffWithin};
-ghost use Rattle.calls.specs.Midway.{NodeWorks};
+ghost use Rattle.calls.specs.Steps.{Unsent};
+ghost use Rattle.calls.specs.Midway.{Sent, NodeWorks};
 ghost use Rattle.calls.specs.Networks.{fabric_of, SameParts};
 
 use super::steps::{spread, wishes};
@@ -144,6 +145,28 @@ impl<L: Layout, S: Switch> Network<L, S> {
         Ok(self.inner.slots[PORTS * node + port])
     }
 
+    // The switch sends the flits in the places of a node on to the far ends of its ports.
+    fn send(
+        &self,
+        node: usize,
+        places: [Option<Flit>; 4],
+        golden: usize,
+        draws: [bool; 4],
+        arriving: &mut [Option<Flit>; SLOTS],
+    )
+        requires known { node < (L.plan self.now.layout).nodes }
+        requires unsent { Unsent (L.plan self.now.layout) node arriving.old }
+        ensures { Sent (fabric_of L.plan S.turn self.now) node places golden draws arriving.old arriving.new }
+    {
+        // under a light load most nodes hold no flit
+        if places.iter().all(|place| place.is_none()) {
+            return;
+        }
+        let wishes = wishes(&self.layout, node, places);
+        let leaving = self.switch.route(places, wishes, golden, draws);
+        spread(&self.layout, node, leaving, arriving);
+    }
+
     // One node's work in a cycle. Answers how many flits it ejected.
     fn work(
         &mut self,
@@ -152,17 +175,17 @@ impl<L: Layout, S: Switch> Network<L, S> {
         line: &mut Line<Event>,
         arriving: &mut [Option<Flit>; SLOTS],
     ) -> usize
-        requires { node < (L.plan self.old.layout).nodes }
+        requires known { node < (L.plan self.old.layout).nodes }
+        requires unsent { Unsent (L.plan self.old.layout) node arriving.old }
         ensures works { NodeWorks (fabric_of L.plan S.turn self.old) self.old.inner self.new.inner node golden arriving.old arriving.new (queue_of line.old) (queue_of line.new) result }
+        ensures unsent { Unsent (L.plan self.old.layout) (node + 1) arriving.new }
         ensures parts { SameParts self.old self.new }
         ensures lender { SameLender line.old line.new }
     {
         let (left, off) = self.inner.take_off(node, golden, line);
         let places = self.inner.enter(node, left, line);
         let draws = self.inner.draw();
-        let wishes = wishes(&self.layout, node, places);
-        let leaving = self.switch.route(places, wishes, golden, draws);
-        spread(&self.layout, node, leaving, arriving);
+        self.send(node, places, golden, draws, arriving);
         off
     }
 

@@ -5,7 +5,7 @@ ghost use Rattle.switch.specs.Switches.{at};
 ghost use Rattle.network.specs.Cycle.{in_slot_order};
 ghost use Rattle.network.specs.Runs.{port_of};
 ghost use Rattle.network.specs.Computed.{due as is_due, better as is_better, best as is_best, ahead as is_ahead, gap as is_gap};
-ghost use Rattle.calls.specs.Steps.{wished, far_place, Spread};
+ghost use Rattle.calls.specs.Steps.{wished, far_place, Spread, Unsent};
 
 use super::tables::SLOTS;
 use fabric::layout::Layout;
@@ -101,18 +101,21 @@ fn far<L: Layout>(layout: &L, node: usize, k: usize) -> usize
     4 * to.node + to.port.index()
 }
 
-// Each flit goes to its port's far end.
+// Each flit goes to its port's far end. Only empty places are passed over, since no other node sends there.
 pub(crate) fn spread<L: Layout>(
     layout: &L,
     node: usize,
     leaving: [Option<Flit>; 4],
     slots: &mut [Option<Flit>; SLOTS],
 )
-    requires { node < (L.plan layout.now).nodes }
+    requires known { node < (L.plan layout.now).nodes }
+    requires unsent { Unsent (L.plan layout.now) node slots.old }
     ensures { Spread (L.plan layout.now) node leaving slots.old slots.new }
 {
     for (k, flit) in leaving.iter().enumerate() {
-        let to = far(layout, node, k);
-        slots[to] = *flit;
+        if flit.is_some() {
+            let to = far(layout, node, k);
+            slots[to] = *flit;
+        }
     }
 }

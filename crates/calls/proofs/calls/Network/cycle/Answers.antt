@@ -1,8 +1,10 @@
-use Rattle.std.proofs.Common.{ℕ, ◌*◌, refl, ap, ◌∙◌, subst₂, arith}
+use Rattle.std.proofs.Common.{ℕ, ◌+◌, ◌*◌, sym, refl, ap, ◌∙◌, subst, subst₂, arith}
 use Rattle.line.specs.Lines.{queue_of}
 use Rattle.clock.specs.Epochs.{golden_ticket}
 use Rattle.calls.specs.Networks.{fabric_of}
+use Rattle.calls.specs.Steps.{Unsent}
 use Rattle.calls.specs.Midway.{NodeWorks}
+use Rattle.calls.proofs.Stepping.{unsent_all}
 use Rattle.calls.proofs.Promising.{not_refused, promised, refusing}
 use Rattle.calls.proofs.Rounds.{round_none, round_more, no_cycle, no_room, cycles_on}
 use Rattle.calls.proofs.calls.Network.cycle.Goals as goal
@@ -27,7 +29,12 @@ pub loop-node-init : goal.loop-node-init
 loop-node-init g c =
     let s = c.args.self.now in
     let F = fabric_of g.L.Layout.plan g.S.Switch.turn s in
-    (round_none F s.inner c.golden-golden.result _ (queue_of c.args.line.now), (refl, refl), refl)
+    (round_none F s.inner c.golden-golden.result _ (queue_of c.args.line.now), unsent_all F.plan (g.met.L.Layout.lawful s.layout), (refl, refl), refl)
+
+pub work-off-requires-clause-unsent : goal.work-off-requires-clause-unsent
+work-off-requires-clause-unsent g c =
+    let i = c.loop-node.invariant in
+    subst (λ (x : g.row.L.Denot). Unsent (g.L.Layout.plan x) c.loop-node.node c.loop-node.arriving) (sym i.2.0) i.1
 
 pub loop-node-preserved : goal.loop-node-preserved
 loop-node-preserved g c =
@@ -40,9 +47,10 @@ loop-node-preserved g c =
           (subst₂ (λ (x : g.row.L.Denot) (y : g.row.S.Denot).
           NodeWorks (record { plan = g.L.Layout.plan x; turn = g.S.Switch.turn y }) c.loop-node.self.inner w.new.self.inner c.loop-node.node c.golden-golden.result
           c.loop-node.arriving w.new.arriving (queue_of c.loop-node.line) (queue_of w.new.line) w.result)
-          i.1.0 i.1.1 w.ensures.works),
-      (w.ensures.parts.0 ∙ i.1.0, w.ensures.parts.1 ∙ i.1.1),
-      w.ensures.lender ∙ i.2,
+          i.2.0 i.2.1 w.ensures.works),
+      subst (λ (x : g.row.L.Denot). Unsent (g.L.Layout.plan x) (c.loop-node.node + 1) w.new.arriving) i.2.0 w.ensures.unsent,
+      (w.ensures.parts.0 ∙ i.2.0, w.ensures.parts.1 ∙ i.2.1),
+      w.ensures.lender ∙ i.3,
     )
 
 pub returns-clause-promised : goal.returns-clause-promised

@@ -1,4 +1,5 @@
 use Rattle.line.specs.Lines.{queue_of, SameLender}
+use Rattle.calls.specs.Steps.{Unsent}
 use Rattle.calls.specs.Midway.{Round}
 use Rattle.calls.specs.Networks.{SameParts}
 use Rattle.calls.proofs.calls.Network.cycle.Given as goal
@@ -7,4 +8,4 @@ abbrev pub invariant-loop-node : goal.invariant-loop-node
 invariant-loop-node g l =
     Round (record { plan = g.L.Layout.plan l.initial.self.layout; turn = g.S.Switch.turn l.initial.self.switch }) l.initial.self.inner l.self.inner l.node l.golden l.arriving
     (queue_of l.initial.line) (queue_of l.line) l.off
-    × SameParts l.initial.self l.self × SameLender l.initial.line l.line
+    × Unsent (g.L.Layout.plan l.initial.self.layout) l.node l.arriving × SameParts l.initial.self l.self × SameLender l.initial.line l.line
