@@ -27,6 +27,7 @@ use Rattle.calls.specs.Steps.{far_place}
 use Rattle.calls.specs.Follow.{slot_of, Records, Queued, Shows}
 use Rattle.calls.specs.Midway.{Reached, Midway, NodeWorks, Round}
 use Rattle.calls.proofs.Promising.{Works}
+use Rattle.calls.proofs.Setting.{place_below}
 use Rattle.calls.proofs.Putting.{put_length}
 use Rattle.calls.proofs.Working.{told_few}
 
@@ -109,7 +110,7 @@ module _ (F : Fabric) (i : Tables) where
 
       pub cycles_on : 2 * F.plan.nodes ≤ length q.memory - q.held → q.held ≤ length q.memory → (j k : Tables) (g : ℕ) (arrived : List (Option Flit)) (r : Queue Event) (off n : ℕ) →
           g ≡ golden_in F P i.cycles → n ≡ F.plan.nodes → Round F i j n g arrived q r off →
-          Advances j k arrived →
+          Advances j k (4 * F.plan.nodes) arrived →
           Works F i k (cycle q) (cycling (granted off) r)
       cycles_on room fits j k g arrived r off n gold all R a =
           record {
@@ -125,7 +126,9 @@ module _ (F : Fabric) (i : Tables) where
                 let shows : Shows F k (cycled F P s) = record {
                   cycles = a.cycles ∙ ap (λ x. x + 1) b.cycles;
                   drawn = a.register ∙ m.drawn ∙ ap (register P.seed) turns ∙ ap (λ (Q : Settings). register Q.seed ((s.cycles + 1) * N)) (sym e);
-                  slots = λ x p h. ap (λ xs. slot_of xs x p) a.slots ∙ all_arrived law s arrived (λ y t l. m.sent y t l) x p h;
+                  slots = λ x p h.
+                      let b = place_below p in
+                      a.slots (4 * x + place_of p) (omega arith) ∙ all_arrived law s arrived (λ y t l. m.sent y t l) x p h;
                   records = subst₂ (λ (Q : Settings) (ts : List (Option Ticket)). Records (all_tickets F.plan Q) ts (done F P s N ++ s.log)) (sym a.settings) (sym a.tickets) b.records;
                   queued = subst₂ (λ (Q : Settings) (ws : List (List ℕ)). Queued N Q.tickets ws (done F P s N ++ s.log)) (sym a.settings) (sym (ap (map items) a.waits)) b.queued;
                 } in

@@ -1,6 +1,6 @@
 -- The steps of a node's work on four places.
-use Rattle.std.proofs.Common.{◌≡◌, ℕ, ◌+◌, ◌*◌, ◌<◌, ◌⊎◌, List, [], ◌∷◌, length, get_or, set, replicate, is_some, false, Some, None, Option, sym, refl, ap, ◌∙◌, subst, inl, inr, add-one, arith}
-use Rattle.std.proofs.lemmas.List.{get_or-replicate, get_or-set_same, get_or-set_other}
+use Rattle.std.proofs.Common.{◌≡◌, ℕ, ◌+◌, ◌*◌, ◌<◌, ◌⊎◌, List, [], ◌∷◌, ◌++◌, length, get_or, set, replicate, is_some, false, Some, None, Option, sym, refl, ap, ◌∙◌, subst, inl, inr, add-one, arith}
+use Rattle.std.proofs.lemmas.List.{length-replicate, get_or_append_left, get_or-replicate, get_or-set_same, get_or-set_other}
 use Rattle.std.proofs.lemmas.Bool.{cases_eq, false≢true}
 use Rattle.fabric.specs.declared.parts.Port.{Port}
 use Rattle.fabric.specs.declared.parts.Port.TheVariants.{N, E, S, W}
@@ -121,9 +121,14 @@ spread_none p n hn leaving slots none e = record { sent = λ q. none n q (omega 
 far_below : (p : Plan) → Lawful p → (n : ℕ) (q : Port) → n < p.nodes → far_place p n q < 4 * p.nodes
 far_below p law n q h = let a = far_exists p law n q h in let b = place_below (p.far n q).port in omega arith
 
--- before the first node has sent
-pub unsent_all : (p : Plan) → Lawful p → Unsent p 0 (replicate 256 None)
-unsent_all p law m q h l = let a = far_below p law m q l in let b = law.few_nodes in get_or-replicate 256 (far_place p m q) None None (omega arith)
+-- before the first node has sent, where the places of all nodes are emptied
+pub unsent_all : (p : Plan) → Lawful p → (front rest : List (Option Flit)) → front ≡ replicate (4 * p.nodes) None → Unsent p 0 (front ++ rest)
+unsent_all p law front rest e m q h l =
+    let a = far_below p law m q l in
+    let b : length front ≡ 4 * p.nodes = ap length e ∙ length-replicate (4 * p.nodes) None in
+    get_or_append_left front rest None (far_place p m q) (omega arith)
+    ∙ ap (λ xs. get_or xs (far_place p m q) None) e
+    ∙ get_or-replicate (4 * p.nodes) (far_place p m q) None None a
 
 -- what a node sends arrives at the far end of no later node
 pub unsent_more : (p : Plan) → Lawful p → (n : ℕ) → n < p.nodes → (leaving before after : List (Option Flit)) → Spread p n leaving before after → Unsent p n before → Unsent p (n + 1) after

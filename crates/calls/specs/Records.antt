@@ -1,5 +1,5 @@
 -- The record of a ticket, a node's waiting tickets, and how calls change them.
-use Rattle.std.specs.Prelude.{◌≡◌, ℕ, ◌+◌, ◌<◌, Bool, true, cond, ◌&&◌, List, [], ◌∷◌, ◌++◌, length, min, map, drop, replicate, Some, None, Option, ◌==◌, ◌≢◌, slice_index, slice_index_or, slice_set}
+use Rattle.std.specs.Prelude.{◌≡◌, ℕ, ◌+◌, ◌<◌, ◌≤◌, Bool, true, cond, ◌&&◌, List, [], ◌∷◌, ◌++◌, length, min, map, drop, replicate, Some, None, Option, ◌==◌, ◌≢◌, slice_index, slice_index_or, slice_set}
 use Rattle.fabric.specs.declared.parts.Flit.{Flit}
 use Rattle.batch.specs.Items.{items, joined}
 use Rattle.bounds.specs.declared.settings.Settings.{Settings}
@@ -118,11 +118,12 @@ pub record Draws (i j : Tables) (ds : List Bool) : Type 0 where
   pub tickets : j.tickets ≡ i.tickets
   pub waits : j.waits ≡ i.waits
 
--- a cycle ends
-pub record Advances (i j : Tables) (arrived : List (Option Flit)) : Type 0 where
+-- a cycle ends: what arrived stands in the first m slots
+pub record Advances (i j : Tables) (m : ℕ) (arrived : List (Option Flit)) : Type 0 where
   pub settings : j.settings ≡ i.settings
   pub cycles : j.cycles ≡ i.cycles + 1
   pub register : j.register ≡ i.register
-  pub slots : j.slots ≡ arrived
+  pub slots : (k : ℕ) → k < m → slice_index_or j.slots k None ≡ slice_index_or arrived k None
+  pub rest : (k : ℕ) → m ≤ k → slice_index_or j.slots k None ≡ slice_index_or i.slots k None
   pub tickets : j.tickets ≡ i.tickets
   pub waits : j.waits ≡ i.waits

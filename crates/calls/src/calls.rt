@@ -40,6 +40,8 @@ pub struct Network<L, S> {
     layout: L,
     switch: S,
     inner: Tables,
+    // what arrives in a cycle. It is kept so that a cycle writes no more places than the layout has.
+    arriving: [Option<Flit>; SLOTS],
 }
 
 impl<L: Layout, S: Switch> Network<L, S> {
@@ -52,6 +54,7 @@ impl<L: Layout, S: Switch> Network<L, S> {
             layout,
             switch,
             inner,
+            arriving: [None; SLOTS],
         }
     }
 
@@ -146,17 +149,12 @@ impl<L: Layout, S: Switch> Network<L, S> {
     }
 
     // The switch sends the flits in the places of a node on to the far ends of its ports.
-    fn send(
-        &self,
-        node: usize,
-        places: [Option<Flit>; 4],
-        golden: usize,
-        draws: [bool; 4],
-        arriving: &mut [Option<Flit>; SLOTS],
-    )
-        requires known { node < (L.plan self.now.layout).nodes }
-        requires unsent { Unsent (L.plan self.now.layout) node arriving.old }
-        ensures { Sent (fabric_of L.plan S.turn self.now) node places golden draws arriving.old arriving.new }
+    fn send(&mut self, node: usize, places: [Option<Flit>; 4], golden: usize, draws: [bool; 4])
+        requires known { node < (L.plan self.old.layout).nodes }
+        requires unsent { Unsent (L.plan self.old.layout) node self.old.arriving }
+        ensures sent { Sent (fabric_of L.plan S.turn self.old) node places golden draws self.old.arriving self.new.arriving }
+        ensures same { self.new.inner ≡ self.old.inner }
+        ensures parts { SameParts self.old self.new }
     {
         // under a light load most nodes hold no flit
         if places.iter().all(|place| place.is_none()) {
@@ -164,28 +162,22 @@ impl<L: Layout, S: Switch> Network<L, S> {
         }
         let wishes = wishes(&self.layout, node, places);
         let leaving = self.switch.route(places, wishes, golden, draws);
-        spread(&self.layout, node, leaving, arriving);
+        spread(&self.layout, node, leaving, &mut self.arriving);
     }
 
     // One node's work in a cycle. Answers how many flits it ejected.
-    fn work(
-        &mut self,
-        node: usize,
-        golden: usize,
-        line: &mut Line<Event>,
-        arriving: &mut [Option<Flit>; SLOTS],
-    ) -> usize
+    fn work(&mut self, node: usize, golden: usize, line: &mut Line<Event>) -> usize
         requires known { node < (L.plan self.old.layout).nodes }
-        requires unsent { Unsent (L.plan self.old.layout) node arriving.old }
-        ensures works { NodeWorks (fabric_of L.plan S.turn self.old) self.old.inner self.new.inner node golden arriving.old arriving.new (queue_of line.old) (queue_of line.new) result }
-        ensures unsent { Unsent (L.plan self.old.layout) (node + 1) arriving.new }
+        requires unsent { Unsent (L.plan self.old.layout) node self.old.arriving }
+        ensures works { NodeWorks (fabric_of L.plan S.turn self.old) self.old.inner self.new.inner node golden self.old.arriving self.new.arriving (queue_of line.old) (queue_of line.new) result }
+        ensures unsent { Unsent (L.plan self.old.layout) (node + 1) self.new.arriving }
         ensures parts { SameParts self.old self.new }
         ensures lender { SameLender line.old line.new }
     {
         let (left, off) = self.inner.take_off(node, golden, line);
         let places = self.inner.enter(node, left, line);
         let draws = self.inner.draw();
-        self.send(node, places, golden, draws, arriving);
+        self.send(node, places, golden, draws);
         off
     }
 
@@ -203,12 +195,13 @@ impl<L: Layout, S: Switch> Network<L, S> {
             return Err(Refusal::Room);
         }
         let golden = self.inner.golden(nodes);
-        let mut arriving = [None; SLOTS];
+        let places = PORTS * nodes;
+        self.arriving[..places].fill(None);
         let mut off = 0;
         for node in 0..nodes {
-            off += self.work(node, golden, line, &mut arriving);
+            off += self.work(node, golden, line);
         }
-        self.inner.advance(arriving);
+        self.inner.advance(&self.arriving, places);
         Ok(off)
     }
 }

@@ -125,12 +125,15 @@ impl Tables {
         )
     }
 
-    // The end of a cycle: what arrived stands in the slots.
-    pub(crate) fn advance(&mut self, arriving: [Option<Flit>; SLOTS])
-        requires { self.old.cycles < 1073741823 }
-        ensures { Advances self.old self.new arriving }
+    // The end of a cycle: what arrived stands in the slots, of which so many are in use.
+    pub(crate) fn advance(&mut self, arriving: &[Option<Flit>; SLOTS], places: usize)
+        requires { (self.old.cycles < 1073741823) × (places ≤ 256) }
+        ensures { Advances self.old self.new places arriving.now }
     {
-        self.slots = arriving;
+        // one by one: beside a ghost field no slice of a field can be lent
+        for (k, flit) in arriving[..places].iter().enumerate() {
+            self.slots[k] = *flit;
+        }
         self.cycles += 1;
     }
 }

@@ -17,9 +17,10 @@ loop-k-preserved g c =
       | then-is_some w ↦
           let l = i.0 in
           let b = w.far-to.ensures.below in
-          subst Sent (sym w.slots-is)
-          (length-set c.loop-k.slots w.far-to.result (get_or c.args.leaving k None) ∙ l,
-          spread_more p law c.args.node c.requires.known c.args.leaving c.args.slots.now k w.far-to.result c.loop-k.slots (omega arith) w.far-to.ensures.is (omega arith) i.1)
+          subst Sent (sym w.slots-is) (
+            length-set c.loop-k.slots w.far-to.result (get_or c.args.leaving k None) ∙ l,
+            spread_more p law c.args.node c.requires.known c.args.leaving c.args.slots.now k w.far-to.result c.loop-k.slots (omega arith) w.far-to.ensures.is (omega arith) i.1,
+          )
       | else-is_some w ↦
           subst Sent (sym w.slots-is)
           (i.0, spread_past p law c.args.node c.requires.known c.args.leaving c.args.slots.now c.requires.unsent k c.loop-k.slots (omega arith) (sym c.is_some.ensures ∙ w.if-is_some.false) i.1)

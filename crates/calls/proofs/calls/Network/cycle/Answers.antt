@@ -1,7 +1,9 @@
-use Rattle.std.proofs.Common.{ℕ, ◌+◌, ◌*◌, sym, refl, ap, ◌∙◌, subst, subst₂, arith}
+use Rattle.std.proofs.Common.{ℕ, ◌+◌, ◌*◌, replicate, None, sym, refl, ap, ◌∙◌, subst, subst₂, rules, arith}
+use Rattle.std.proofs.lemmas.List.{length-take-le}
 use Rattle.line.specs.Lines.{queue_of}
 use Rattle.clock.specs.Epochs.{golden_ticket}
 use Rattle.calls.specs.Networks.{fabric_of}
+use Rattle.calls.specs.Records.{Advances}
 use Rattle.calls.specs.Steps.{Unsent}
 use Rattle.calls.specs.Midway.{NodeWorks}
 use Rattle.calls.proofs.Stepping.{unsent_all}
@@ -29,12 +31,19 @@ pub loop-node-init : goal.loop-node-init
 loop-node-init g c =
     let s = c.args.self.now in
     let F = fabric_of g.L.Layout.plan g.S.Switch.turn s in
-    (round_none F s.inner c.golden-golden.result _ (queue_of c.args.line.now), unsent_all F.plan (g.met.L.Layout.lawful s.layout), (refl, refl), refl)
+    let law = g.met.L.Layout.lawful s.layout in
+    let few = law.few_nodes in
+    let front = length-take-le (4 * c.nodes-nodes.result) s.arriving (omega arith) ∙ ap (λ n. 4 * n) c.nodes-nodes.ensures in (
+      round_none F s.inner c.golden-golden.result _ (queue_of c.args.line.now),
+      unsent_all F.plan law _ _ (c.fill.ensures.after (λ y e. search rules) ∙ ap (λ k. replicate k None) front),
+      (refl, refl),
+      refl,
+    )
 
 pub work-off-requires-clause-unsent : goal.work-off-requires-clause-unsent
 work-off-requires-clause-unsent g c =
     let i = c.loop-node.invariant in
-    subst (λ (x : g.row.L.Denot). Unsent (g.L.Layout.plan x) c.loop-node.node c.loop-node.arriving) (sym i.2.0) i.1
+    subst (λ (x : g.row.L.Denot). Unsent (g.L.Layout.plan x) c.loop-node.node c.loop-node.self.arriving) (sym i.2.0) i.1
 
 pub loop-node-preserved : goal.loop-node-preserved
 loop-node-preserved g c =
@@ -42,13 +51,13 @@ loop-node-preserved g c =
     let F = fabric_of g.L.Layout.plan g.S.Switch.turn s in
     let i = c.loop-node.invariant in
     let w = c.work-off in (
-      round_more F s.inner c.loop-node.self.inner w.new.self.inner c.loop-node.node c.golden-golden.result c.loop-node.arriving w.new.arriving
+      round_more F s.inner c.loop-node.self.inner w.new.self.inner c.loop-node.node c.golden-golden.result c.loop-node.self.arriving w.new.self.arriving
           (queue_of c.args.line.now) (queue_of c.loop-node.line) (queue_of w.new.line) c.loop-node.off w.result (omega arith) i.0
           (subst₂ (λ (x : g.row.L.Denot) (y : g.row.S.Denot).
           NodeWorks (record { plan = g.L.Layout.plan x; turn = g.S.Switch.turn y }) c.loop-node.self.inner w.new.self.inner c.loop-node.node c.golden-golden.result
-          c.loop-node.arriving w.new.arriving (queue_of c.loop-node.line) (queue_of w.new.line) w.result)
+          c.loop-node.self.arriving w.new.self.arriving (queue_of c.loop-node.line) (queue_of w.new.line) w.result)
           i.2.0 i.2.1 w.ensures.works),
-      subst (λ (x : g.row.L.Denot). Unsent (g.L.Layout.plan x) (c.loop-node.node + 1) w.new.arriving) i.2.0 w.ensures.unsent,
+      subst (λ (x : g.row.L.Denot). Unsent (g.L.Layout.plan x) (c.loop-node.node + 1) w.new.self.arriving) i.2.0 w.ensures.unsent,
       (w.ensures.parts.0 ∙ i.2.0, w.ensures.parts.1 ∙ i.2.1),
       w.ensures.lender ∙ i.3,
     )
@@ -62,5 +71,5 @@ returns-clause-promised g c =
     let q = queue_of c.args.line.now in
     promised law (g.met.S.Switch.lawful s.switch)
     (cycles_on F s.inner law q c.if-self-ge-MOST_CYCLES.false (omega arith) c.args.line.now.sound.0 c.loop-node.self.inner c.advance.new.self c.golden-golden.result
-    c.loop-node.arriving (queue_of c.loop-node.line) c.loop-node.off c.loop-node.node
-    (c.golden-golden.ensures ∙ ap (λ (x : ℕ). golden_ticket (x * s.inner.settings.tickets) s.inner.settings.epoch s.inner.cycles) c.nodes-nodes.ensures) (omega arith) i.0 c.advance.ensures) not_refused
+    c.loop-node.self.arriving (queue_of c.loop-node.line) c.loop-node.off c.loop-node.node
+    (c.golden-golden.ensures ∙ ap (λ (x : ℕ). golden_ticket (x * s.inner.settings.tickets) s.inner.settings.epoch s.inner.cycles) c.nodes-nodes.ensures) (omega arith) i.0 (subst (λ (m : ℕ). Advances c.loop-node.self.inner c.advance.new.self (4 * m) c.loop-node.self.arriving) c.nodes-nodes.ensures c.advance.ensures)) not_refused
