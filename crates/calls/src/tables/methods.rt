@@ -78,8 +78,7 @@ impl Tables {
         requires { node < 64 }
         ensures { LetsIn self.old self.new node result }
     {
-        let mut line = self.waits[node];
-        let ticket = line.first()?;
+        let ticket = self.waits[node].first()?;
         let t = usize::from(ticket);
         if t >= TICKETS {
             return None;
@@ -90,6 +89,7 @@ impl Tables {
         };
         let flit = packet.send(ticket, cycle);
         if packet.sent == packet.size {
+            let mut line = self.waits[node];
             line.remove_first();
             self.waits[node] = line;
         }
