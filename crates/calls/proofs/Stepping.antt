@@ -1,5 +1,7 @@
 -- The steps of a node's work on four places.
-use Rattle.std.proofs.Common.{◌≡◌, ℕ, ◌+◌, ◌*◌, ◌<◌, ◌⊎◌, List, [], ◌∷◌, ◌++◌, length, get_or, set, replicate, is_some, false, Some, None, Option, sym, refl, ap, ◌∙◌, subst, inl, inr, add-one, arith}
+use Rattle.std.proofs.Common.{◌≡◌, ℕ, ◌+◌, ◌*◌, ◌<◌, ◌⊎◌, List, [], ◌∷◌, ◌++◌, length, get_or, set, replicate, is_some, false, true, ◌&&◌, Some, None, Option, sym, refl, ap, ◌∙◌, subst, inl, inr, add-one, arith}
+use mathlib.Core.Path.{fun_ext}
+use Rattle.std.specs.Option.{is_none}
 use Rattle.std.proofs.lemmas.List.{length-replicate, get_or_append_left, get_or-replicate, get_or-set_same, get_or-set_other}
 use Rattle.std.proofs.lemmas.Bool.{cases_eq, false≢true}
 use Rattle.fabric.specs.declared.parts.Port.{Port}
@@ -12,7 +14,7 @@ use Rattle.fabric.proofs.Following.{far_exists}
 use Rattle.switch.specs.Switches.{at}
 use Rattle.network.specs.Runs.{port_of}
 use Rattle.network.specs.Computed.{due, better, best}
-use Rattle.calls.specs.Steps.{far_place, best_upto, Spread, SpreadUpto, Unsent}
+use Rattle.calls.specs.Steps.{none_at, far_place, best_upto, Spread, SpreadUpto, Unsent}
 use Rattle.calls.proofs.Looking.{place_of_port}
 use Rattle.calls.proofs.Setting.{place_below}
 
@@ -134,3 +136,20 @@ unsent_all p law front rest e m q h l =
 pub unsent_more : (p : Plan) → Lawful p → (n : ℕ) → n < p.nodes → (leaving before after : List (Option Flit)) → Spread p n leaving before after → Unsent p n before → Unsent p (n + 1) after
 unsent_more p law n hn leaving before after s none m q h l =
     s.rest (far_place p m q) (λ r z. let e = (far_same p law m n q r l hn z).0 in absurd (omega arith)) ∙ none m q (omega arith) l
+
+all_four : (a b c d : Option Flit) → (is_none a && is_none b) && (is_none c && is_none d) ≡ true → (a ≡ None) × (b ≡ None) × (c ≡ None) × (d ≡ None)
+all_four None None None None e = (refl, refl, refl, refl)
+all_four None None None (Some f) e = absurd (false≢true e)
+all_four None None (Some f) d e = absurd (false≢true e)
+all_four None (Some f) c d e = absurd (false≢true e)
+all_four (Some f) b c d e = absurd (false≢true e)
+
+pub none_there : (here : Port → Option Flit) → none_at here ≡ true → (q : Port) → here q ≡ None
+none_there here e N = (all_four (here N) (here E) (here S) (here W) e).0
+none_there here e E = (all_four (here N) (here E) (here S) (here W) e).1
+none_there here e S = (all_four (here N) (here E) (here S) (here W) e).2
+none_there here e W = (all_four (here N) (here E) (here S) (here W) e).3
+
+-- of no flit none is due
+pub none_best : (g n : ℕ) (xs : List (Option Flit)) → ((q : Port) → at xs q ≡ None) → best g (λ p. due n (at xs p)) ≡ None
+none_best g n xs e = ap (λ (h : Port → Option Flit). best g h) (fun_ext (λ p. ap (due n) (e p)))

@@ -12,7 +12,7 @@ ghost use Rattle.calls.specs.Steps.{Unsent};
 ghost use Rattle.calls.specs.Midway.{Sent, NodeWorks};
 ghost use Rattle.calls.specs.Networks.{fabric_of, SameParts};
 
-use super::steps::{spread, wishes};
+use super::steps::{are_empty, spread, wishes};
 use super::tables::{SLOTS, Tables};
 use bounds::settings::Settings;
 use fabric::layout::Layout;
@@ -157,7 +157,7 @@ impl<L: Layout, S: Switch> Network<L, S> {
         ensures parts { SameParts self.old self.new }
     {
         // under a light load most nodes hold no flit
-        if places.iter().all(|place| place.is_none()) {
+        if are_empty(places) {
             return;
         }
         let wishes = wishes(&self.layout, node, places);

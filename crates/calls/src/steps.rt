@@ -5,12 +5,19 @@ ghost use Rattle.switch.specs.Switches.{at};
 ghost use Rattle.network.specs.Cycle.{in_slot_order};
 ghost use Rattle.network.specs.Runs.{port_of};
 ghost use Rattle.network.specs.Computed.{due as is_due, better as is_better, best as is_best, ahead as is_ahead, gap as is_gap};
-ghost use Rattle.calls.specs.Steps.{wished, far_place, Spread, Unsent};
+ghost use Rattle.calls.specs.Steps.{none_at, wished, far_place, Spread, Unsent};
 
 use super::tables::SLOTS;
 use fabric::layout::Layout;
 use fabric::parts::{Flit, Port};
 use switch::rank::Rank;
+
+// Whether no flit stands in any of the places.
+pub(crate) fn are_empty(places: [Option<Flit>; 4]) -> bool
+    ensures { result ≡ none_at (at places) }
+{
+    matches!(places, [None, None, None, None])
+}
 
 // The flit in a place, if it is destined for this node.
 fn due(node: usize, place: Option<Flit>) -> Option<Flit>

@@ -3,7 +3,7 @@ ghost use Rattle.std.specs.Prelude.{◌<◌};
 ghost use Rattle.line.specs.Lines.{queue_of, SameLender};
 ghost use Rattle.calls.specs.Midway.{TakesOff, Enters};
 
-use super::super::steps::{best, gap, with};
+use super::super::steps::{are_empty, best, gap, with};
 use super::super::telling::tell;
 use super::Tables;
 use fabric::parts::Flit;
@@ -23,6 +23,10 @@ impl Tables {
         ensures lender { SameLender line.old line.new }
     {
         let places = self.places(node);
+        // under a light load most nodes hold no flit
+        if are_empty(places) {
+            return (places, 0);
+        }
         match best(golden, node, places) {
             None => (places, 0),
             Some((port, flit)) => {
