@@ -13,7 +13,7 @@ ghost use Rattle.calls.specs.Midway.{Sent, NodeWorks};
 ghost use Rattle.calls.specs.Networks.{fabric_of, SameParts};
 
 use super::steps::{are_empty, spread, wishes};
-use super::tables::{SLOTS, Tables};
+use super::tables::{PORTS, SLOTS, Tables};
 use bounds::settings::Settings;
 use fabric::layout::Layout;
 use fabric::parts::Flit;
@@ -24,8 +24,6 @@ use switch::switch::Switch;
 
 // Cycles are numbered below this.
 const MOST_CYCLES: u32 = 1_073_741_823;
-
-const PORTS: usize = 4;
 
 // Until set-up a network stands as if set up with these.
 const FIRST: Settings = Settings {
@@ -75,6 +73,7 @@ impl<L: Layout, S: Switch> Network<L, S> {
         ensures exact { result ≡ latest (L.plan self.now.layout) self.now.inner.settings }
         ensures promised { OffWithin (fabric_of L.plan S.turn self.now) self.now.inner result }
     {
+        // as in Limits, which judge the settings first: these are kept
         let Settings { tickets, epoch, .. } = self.inner.settings;
         (self.layout.nodes() * tickets + 1) * epoch
     }

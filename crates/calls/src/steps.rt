@@ -7,7 +7,7 @@ ghost use Rattle.network.specs.Runs.{port_of};
 ghost use Rattle.network.specs.Computed.{due as is_due, better as is_better, best as is_best, ahead as is_ahead, gap as is_gap};
 ghost use Rattle.calls.specs.Steps.{none_at, wished, far_place, Spread, Unsent};
 
-use super::tables::SLOTS;
+use super::tables::{PORTS, SLOTS};
 use fabric::layout::Layout;
 use fabric::parts::{Flit, Port};
 use switch::rank::Rank;
@@ -105,7 +105,7 @@ fn far<L: Layout>(layout: &L, node: usize, k: usize) -> usize
     ensures below { result < 256 }
 {
     let to = layout.far_end(node, Port::ALL[k]);
-    4 * to.node + to.port.index()
+    PORTS * to.node + to.port.index()
 }
 
 // Each flit goes to its port's far end. Where no flit leaves nothing is written: the far end is empty, and no other node sends there.

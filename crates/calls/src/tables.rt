@@ -12,7 +12,9 @@ mod work;
 // A node and a ticket go by their numbers, as in a layout. Types of their own would be opened at each index: the steps ask `node < 64` instead.
 pub(crate) const NODES: usize = 64;
 
-pub(crate) const SLOTS: usize = 256;
+pub(crate) const PORTS: usize = 4;
+
+pub(crate) const SLOTS: usize = NODES * PORTS;
 
 pub(crate) const TICKETS: usize = 512;
 

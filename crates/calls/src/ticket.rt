@@ -7,7 +7,8 @@ pub(crate) const WORDS: usize = 4;
 #[derive(Clone, Copy)]
 pub(crate) struct Ticket {
     pub destination: u8,
-    // how many words it has, and so how many places of both arrays below; `received` fills in any order, so it is no batch
+    // How many words it has, and so how many places of both arrays below. `received` fills in any order, and with a batch of
+    // its words, which has a ghost field, the record could not be lent in place.
     pub size: u8,
     pub sent: u8,
     pub words: [u32; WORDS],

@@ -8,7 +8,7 @@ ghost use Rattle.calls.specs.Records.{arrived as has_arrived, Starts, Accepts, F
 ghost use Rattle.calls.specs.Follow.{slot_of};
 
 use super::super::ticket::Ticket;
-use super::{NODES, SLOTS, TICKETS, Tables};
+use super::{NODES, PORTS, SLOTS, TICKETS, Tables};
 use batch::Batch;
 use bounds::settings::Settings;
 use clock::draw::shift;
@@ -110,7 +110,7 @@ impl Tables {
         requires { node < 64 }
         ensures { result ≡ in_slot_order (slot_of self.now.slots node) }
     {
-        array::from_fn(|k| self.slots[4 * node + k])
+        array::from_fn(|k| self.slots[PORTS * node + k])
     }
 
     // The golden ticket of this cycle.
