@@ -17,12 +17,9 @@ const WISH_ORDER: [Port; 4] = [Port::E, Port::W, Port::N, Port::S];
 #[derive(Clone, Copy)]
 pub struct Cabled {
     wiring: Wiring,
-    // a row for each node, with the distances to it
-    distances: [[u8; NODES]; NODES],
-    reach: u8,
-    ghost near: { reach ≤ 63 },
-    ghost within: { Within wiring.nodes distances reach },
-    ghost nearing: { Nearing wiring.nodes wiring.ends distances },
+    spans: Spans,
+    ghost within: { Within wiring.nodes spans.distances spans.reach },
+    ghost nearing: { Nearing wiring.nodes wiring.ends spans.distances },
 }
 
 impl Cabled {
@@ -35,8 +32,10 @@ impl Cabled {
     {
         Cabled {
             wiring: Wiring::bare(1),
-            distances: [[0; NODES]; NODES],
-            reach: 0,
+            spans: Spans {
+                distances: [[0; NODES]; NODES],
+                reach: 0,
+            },
         }
     }
 
@@ -48,22 +47,18 @@ impl Cabled {
             return Err(Refusal::Nodes);
         }
         let wiring = Wiring::new(nodes, cables)?;
-        let Spans { distances, reach } = wiring.measure()?;
-        *self = Cabled {
-            wiring,
-            distances,
-            reach,
-        };
+        let spans = wiring.measure()?;
+        *self = Cabled { wiring, spans };
         Ok(())
     }
 
     // Whether the port leads one nearer.
     fn leads(&self, from: usize, to: usize, port: Port) -> bool
         requires { (from < self.now.wiring.nodes) × (to < self.now.wiring.nodes) }
-        ensures { result ≡ leads self.now.wiring.ends self.now.distances from to port }
+        ensures { result ≡ leads self.now.wiring.ends self.now.spans.distances from to port }
     {
         let next = self.wiring.far(Slot { node: from, port }).node;
-        self.distances[to][next] + 1 == self.distances[to][from]
+        self.spans.distances[to][next] + 1 == self.spans.distances[to][from]
     }
 }
 
@@ -73,7 +68,7 @@ impl Layout for Cabled {
 
     ghost plan = { plan_of };
 
-    ghost lawful = { λ c. Laws.lawful c.wiring.nodes c.wiring.ends c.distances c.reach c.wiring.paired c.nearing (c.wiring.fair.0, c.wiring.fair.1, c.near) c.within };
+    ghost lawful = { λ c. Laws.lawful c.wiring.nodes c.wiring.ends c.spans.distances c.spans.reach c.wiring.paired c.nearing (c.wiring.fair.0, c.wiring.fair.1, c.spans.near) c.within };
 
     fn nodes(&self) -> usize {
         self.wiring.nodes
@@ -90,7 +85,7 @@ impl Layout for Cabled {
 
     fn distance(&self, from: usize, to: usize) -> usize {
         if from < self.wiring.nodes && to < self.wiring.nodes {
-            usize::from(self.distances[to][from])
+            usize::from(self.spans.distances[to][from])
         } else {
             0
         }
@@ -107,13 +102,14 @@ impl Layout for Cabled {
     }
 
     fn reach(&self) -> usize {
-        usize::from(self.reach)
+        usize::from(self.spans.reach)
     }
 }
 
 #[cfg(test)]
 mod tests {
     use super::*;
+    use std::array;
 
     fn cable(a: usize, p: Port, b: usize, q: Port) -> Cable {
         Cable {
@@ -124,11 +120,7 @@ mod tests {
 
     // Each node's E to the next node's W, and the last node's to the first.
     fn around() -> [Cable; NODES] {
-        let mut cables = [cable(0, Port::E, 0, Port::W); NODES];
-        for (node, place) in cables.iter_mut().enumerate() {
-            *place = cable(node, Port::E, (node + 1) % NODES, Port::W);
-        }
-        cables
+        array::from_fn(|node| cable(node, Port::E, (node + 1) % NODES, Port::W))
     }
 
     #[test]

@@ -1,5 +1,5 @@
 // How far each node is from one, found in rounds.
-ghost use Rattle.std.specs.Prelude.{◌≡◌, ℕ, ◌<◌, Some, None, Ok, Err, max, slice_index, slice_index_or};
+ghost use Rattle.std.specs.Prelude.{◌≡◌, ℕ, ◌<◌, ◌≤◌, Some, None, Ok, Err, max, slice_index, slice_index_or};
 ghost use Rattle.std.specs.List.{reduce};
 ghost use Rattle.std.specs.Option.{unwrap_or};
 ghost use Rattle.cabled.specs.Levels.{any, at, again, NoWay, Steps, Level};
@@ -27,6 +27,7 @@ fn greatest(row: &[u8]) -> u8
 pub(crate) struct Spans {
     pub(crate) distances: [[u8; NODES]; NODES],
     pub(crate) reach: u8,
+    ghost near: { reach ≤ 63 },
 }
 
 // Each step asks that the node exists: a type for a node's number would be opened at each index.

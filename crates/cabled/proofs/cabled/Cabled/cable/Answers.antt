@@ -15,23 +15,21 @@ returns-in_err-wiring c =
     let h = c.in_err-wiring.ensures in
     rw (p.1, p.2, h.1) (bad (omega arith, omega arith) h.0 h.2 h.3 h.4)
 
-pub returns-in_err-distances : goal.returns-in_err-distances
-returns-in_err-distances c =
+pub returns-in_err-spans : goal.returns-in_err-spans
+returns-in_err-spans c =
     let x = c.in_ok-wiring.wiring in
-    let p = err_from_is_err_and c.from_residual-in_err-distances.result c.from_residual-in_err-distances.ensures.1 in
+    let p = err_from_is_err_and c.from_residual-in_err-spans.result c.from_residual-in_err-spans.ensures.1 in
     let h = c.in_ok-wiring.ensures in
-    let u = c.in_err-distances.ensures in
+    let u = c.in_err-spans.ensures in
     rw (p.1, p.2, u.1, ← h.0)
     (unreached x.fair h.1.good u.0 u.2 (λ j v. let r = reverse v in u.3 r.0 (way x.nodes x.fair.1 c.args.cables.now x.ends h.1 r.1)))
 
 pub invariant_of-self : goal.invariant_of-self
 invariant_of-self c =
     let x = c.in_ok-wiring.wiring in
-    let s = c.in_ok-distances.field-0 in
-    let measured = c.in_ok-distances.ensures in
-    let met = measured.met in
+    let s = c.in_ok-spans.spans in
+    let measured = c.in_ok-spans.ensures in
     record {
-      near = omega (arith, met.4, (measured.exact met.0 met.1 (met.2, met.3)).0);
       within = measured.within;
       nearing = nearing x.nodes x.fair.1 c.args.cables.now x.ends s.distances s.reach c.in_ok-wiring.ensures.1 x.paired measured;
     }
@@ -42,8 +40,8 @@ returns c =
     let k = x.nodes in
     let cs = c.args.cables.now in
     let h = c.in_ok-wiring.ensures in
-    let s = c.in_ok-distances.field-0 in
-    let measured = c.in_ok-distances.ensures in
+    let s = c.in_ok-spans.spans in
+    let measured = c.in_ok-spans.ensures in
     rw (← h.0)
     (cabled x.fair h.1.good
     (λ n l cut. let r = reverse (walk k x.fair.1 cs x.ends h.1 0 (distance_at s.distances n 0) n l (measured.exact n 0 (l, x.fair.0)).1.0).2 in cut r.0 r.1)

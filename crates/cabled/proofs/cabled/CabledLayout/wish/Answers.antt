@@ -12,6 +12,6 @@ pub returns : goal.returns
 returns c =
     let x = c.args.self.now in
     sym (option_map_id c.find.result)
-    ∙ find_from_yields_List (leads x.wiring.ends x.distances c.args.from c.args.to) _ _ c.find.result c.find.ensures.ran
+    ∙ find_from_yields_List (leads x.wiring.ends x.spans.distances c.args.from c.args.to) _ _ c.find.result c.find.ensures.ran
     (YieldsList-from_copied (YieldsList-from_slice (E ∷ W ∷ N ∷ S ∷ []) cc)) (λ y b q k. search (rules, tests))
     ∙ sym (cond-true _ _ _ (and_from _ _ (lt-ltb _ _ c.if-from-self.false) (lt-ltb _ _ c.if-to-self.false)))
