@@ -74,7 +74,7 @@ mod tests {
         assert_eq!(rt; farthest(&mesh), (0, 5));
         let hops = path(&mesh, 0, 5, rt.alloc())?;
         let (one, two, three) = (hop(0, Port::E), hop(1, Port::E), hop(2, Port::S));
-        assert!(rt; hops.as_slice() == [one, two, three]);
+        assert!(rt; hops.as_slice() == [one, two, three].as_slice());
         Ok(())
     }
 }
