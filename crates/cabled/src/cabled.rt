@@ -1,5 +1,5 @@
 // Nodes joined by cables.
-ghost use Rattle.std.specs.Prelude.{◌≡◌, ◌<◌, ◌≤◌, []};
+ghost use Rattle.std.specs.Prelude.{◌≡◌, ◌<◌, []};
 ghost use Rattle.fabric.specs.Refusals.{shown};
 ghost use Rattle.cabled.specs.Cables.{Means, lone, Cabling};
 ghost use Rattle.cabled.specs.Tables.{leads, Within, Nearing};

@@ -38,7 +38,7 @@ pub struct Network<L, S> {
     layout: L,
     switch: S,
     inner: Tables,
-    // what arrives in a cycle. It is kept so that a cycle writes no more places than the layout has.
+    // What arrives in a cycle. It is kept so that a cycle writes no more places than the layout has.
     arriving: [Option<Flit>; SLOTS],
 }
 
@@ -73,7 +73,7 @@ impl<L: Layout, S: Switch> Network<L, S> {
         ensures exact { result ≡ latest (L.plan self.now.layout) self.now.inner.settings }
         ensures promised { OffWithin (fabric_of L.plan S.turn self.now) self.now.inner result }
     {
-        // as in Limits, which judge the settings first: these are kept
+        // The number that `Limits` answers, which judges settings first: those of a network are judged already.
         let Settings { tickets, epoch, .. } = self.inner.settings;
         (self.layout.nodes() * tickets + 1) * epoch
     }
@@ -194,13 +194,13 @@ impl<L: Layout, S: Switch> Network<L, S> {
             return Err(Refusal::Room);
         }
         let golden = self.inner.golden(nodes);
-        let places = PORTS * nodes;
-        self.arriving[..places].fill(None);
+        let in_use = PORTS * nodes;
+        self.arriving[..in_use].fill(None);
         let mut off = 0;
         for node in 0..nodes {
             off += self.work(node, golden, line);
         }
-        self.inner.advance(&self.arriving, places);
+        self.inner.advance(&self.arriving, in_use);
         Ok(off)
     }
 }

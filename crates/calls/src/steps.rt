@@ -108,7 +108,7 @@ fn far<L: Layout>(layout: &L, node: usize, k: usize) -> usize
     PORTS * to.node + to.port.index()
 }
 
-// Each flit goes to its port's far end. Where no flit leaves nothing is written: the far end is empty, and no other node sends there.
+// Each flit goes to its port's far end. Where none leaves, nothing is written: the far end is empty, and no other node sends there.
 pub(crate) fn spread<L: Layout>(
     layout: &L,
     node: usize,

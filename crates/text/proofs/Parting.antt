@@ -1,7 +1,7 @@
 -- Parting a text by a byte, and joining the parts by it.
-use Rattle.std.proofs.Common.{◌≡◌, ℕ, ◌+◌, ◌<◌, ◌≤◌, eqb, List, [], ◌∷◌, ◌++◌, length, get_or, take, drop, sym, refl, ap, ◌∙◌, subst, ⊎_elim, Option, None, Some, Bor, arith}
+use Rattle.std.proofs.Common.{◌≡◌, ℕ, ◌+◌, ◌<◌, ◌≤◌, eqb, List, [], ◌∷◌, ◌++◌, length, get_or, take, drop, sym, refl, ap, ◌∙◌, subst, ⊎_elim, Option, None, Some, Bor, true, arith}
 use Rattle.std.specs.List.{flat_map, position, position_or_len, AllByRecursion}
-use Rattle.std.specs.Option.{option_map_or, unwrap_or}
+use Rattle.std.specs.Option.{is_some, option_map_or, unwrap_or}
 use Rattle.std.specs.Slice.{IsGetRangeResult}
 use Rattle.std.proofs.lemmas.List.{append-nil, take-append-drop, drop_more, take_all, take_rest, length-take-le, get_or-take}
 use Rattle.std.proofs.lemmas.List.Quantifiers.{position-Some}
@@ -75,7 +75,7 @@ spaced_parted (x ∷ xs) =
     (cases_Bool (eqb x 32))
 
 -- a text has a part
-pub parted_not_none : (b : ℕ) (s : List ℕ) → parted b s ≡ [] → ⊥
+parted_not_none : (b : ℕ) (s : List ℕ) → parted b s ≡ [] → ⊥
 parted_not_none b s e =
     let k = parted_some b s in
     let f : k.0 ∷ k.1 ≡ [] = sym k.2 ∙ e in
@@ -84,6 +84,10 @@ parted_not_none b s e =
 -- the parts of what is left of a line
 abbrev pub left : Option (Bor (List ℕ)) → List (List ℕ)
 left r = option_map_or (λ x. parted 32 x.now) r []
+
+pub left_some : (r : Option (Bor (List ℕ))) → is_some r ≡ true → left r ≡ [] → ⊥
+left_some None h e = false≢true h
+left_some (Some x) h e = parted_not_none 32 x.now e
 
 -- up to the first space, and what follows it, if there is one
 pub parted_get : (s : List ℕ) (o : Option ℕ) (e : ℕ) (r : Option (Bor (List ℕ))) → o ≡ position (λ x. eqb x 32) s → e ≡ unwrap_or o (length s) → IsGetRangeResult s (e + 1) (length s) r → parted 32 s ≡ take e s ∷ left r

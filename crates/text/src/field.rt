@@ -32,7 +32,7 @@ pub struct Fields<'a> {
 }
 
 impl<'a> Fields<'a> {
-    pub fn new(text: &'a [u8], line: u32) -> Fields<'a>
+    pub(crate) fn new(text: &'a [u8], line: u32) -> Fields<'a>
         ensures words { words result ≡ parted 32 text.now }
         ensures line { result.line ≡ line }
     {
@@ -103,9 +103,9 @@ impl<'a> Fields<'a> {
     pub fn end(&self) -> Result<(), Fault>
         ensures { MatchResult result (λ _. words self.now ≡ []) (λ f. (told f ≡ ill_formed self.now.line) × (words self.now ≢ [])) }
     {
-        match self.rest {
-            None => Ok(()),
-            Some(_) => Err(self.fault()),
+        if self.rest.is_some() {
+            return Err(self.fault());
         }
+        Ok(())
     }
 }

@@ -84,6 +84,7 @@ impl Tables {
             return None;
         }
         let cycle = self.cycles;
+        // not `as_mut`: the borrow checker does not cover that its `&mut` is kept
         let Some(packet) = &mut self.tickets[t] else {
             return None;
         };
@@ -125,13 +126,13 @@ impl Tables {
         )
     }
 
-    // The end of a cycle: what arrived stands in the slots, of which so many are in use.
-    pub(crate) fn advance(&mut self, arriving: &[Option<Flit>; SLOTS], places: usize)
-        requires { (self.old.cycles < 1073741823) × (places ≤ 256) }
-        ensures { Advances self.old self.new places arriving.now }
+    // The end of a cycle: what arrived stands in the slots, of which the first ones are in use.
+    pub(crate) fn advance(&mut self, arriving: &[Option<Flit>; SLOTS], in_use: usize)
+        requires { (self.old.cycles < 1073741823) × (in_use ≤ 256) }
+        ensures { Advances self.old self.new in_use arriving.now }
     {
         // one by one: beside a ghost field no slice of a field can be lent
-        for (k, flit) in arriving[..places].iter().enumerate() {
+        for (k, flit) in arriving[..in_use].iter().enumerate() {
             self.slots[k] = *flit;
         }
         self.cycles += 1;

@@ -1,4 +1,4 @@
-use Rattle.std.proofs.Common.{ℕ, ◌+◌, ◌*◌, replicate, None, sym, refl, ap, ◌∙◌, subst, subst₂, rules, arith}
+use Rattle.std.proofs.Common.{ℕ, ◌+◌, ◌*◌, replicate, None, refl, ap, ◌∙◌, subst, subst₂, rules, arith}
 use Rattle.std.proofs.lemmas.List.{length-take-le}
 use Rattle.line.specs.Lines.{queue_of}
 use Rattle.clock.specs.Epochs.{golden_ticket}
@@ -39,11 +39,6 @@ loop-node-init g c =
       (refl, refl),
       refl,
     )
-
-pub work-off-requires-clause-unsent : goal.work-off-requires-clause-unsent
-work-off-requires-clause-unsent g c =
-    let i = c.loop-node.invariant in
-    subst (λ (x : g.row.L.Denot). Unsent (g.L.Layout.plan x) c.loop-node.node c.loop-node.self.arriving) (sym i.2.0) i.1
 
 pub loop-node-preserved : goal.loop-node-preserved
 loop-node-preserved g c =

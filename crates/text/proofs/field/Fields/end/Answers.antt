@@ -1,6 +1,6 @@
-use Rattle.std.proofs.Common.{sym, ap, ◌∙◌}
-use Rattle.text.proofs.Parting.{parted_not_none, left}
+use Rattle.std.proofs.Common.{sym, ◌∙◌}
+use Rattle.text.proofs.Parting.{left_some}
 use Rattle.text.proofs.field.Fields.end.Goals as goal
 
-pub returns-in-Some : goal.returns-in-Some
-returns-in-Some c = (c.fault.ensures, λ e. parted_not_none 32 c.in-Some.field-0.now (sym (ap left c.in-Some.is) ∙ e))
+pub returns-then-is_some : goal.returns-then-is_some
+returns-then-is_some c = (c.fault.ensures, left_some c.args.self.now.rest (sym c.is_some.ensures ∙ c.if-is_some.true))
