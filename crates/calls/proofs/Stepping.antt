@@ -116,10 +116,6 @@ spread_past p law n hn leaving before none k after h e u =
       rest = λ j b. u.rest j (λ q c. b q (omega arith));
     }
 
--- where no flit leaves, all is sent
-pub spread_none : (p : Plan) (n : ℕ) → n < p.nodes → (leaving slots : List (Option Flit)) → Unsent p n slots → ((q : Port) → at leaving q ≡ None) → Spread p n leaving slots slots
-spread_none p n hn leaving slots none e = record { sent = λ q. none n q (omega arith) hn ∙ sym (e q); rest = λ k b. refl }
-
 far_below : (p : Plan) → Lawful p → (n : ℕ) (q : Port) → n < p.nodes → far_place p n q < 4 * p.nodes
 far_below p law n q h = let a = far_exists p law n q h in let b = place_below (p.far n q).port in omega arith
 
