@@ -1,4 +1,4 @@
--- What the verdicts on a text's lines make of a report.
+-- What the verdicts on a sheet's lines make of a report.
 use Rattle.std.proofs.Common.{◌≡◌, ℕ, zero, suc, ◌+◌, ◌*◌, ◌<◌, ◌≤◌, false, true, ◌||◌, eqb, List, [], ◌∷◌, length, get_or, Err, Result, sym, refl, ap, subst, inl, ⊎_elim, arith}
 use Rattle.std.specs.List.{AllByRecursion, IsDistinct, list_any}
 use Rattle.std.proofs.lemmas.Bool.{cases_Bool, eqb-true, ne_eqb}
@@ -128,9 +128,9 @@ named_below {k} {cs} (bad f i l g h) = few_good k cs f i g
 named_below (unreached f g n l h) = let most = f.1 in omega arith
 named_below (cabled f g h m) = tt
 
--- the layout's lines of a text, by what was read of them
-pub as_read : (run : ℕ) (s : Shape) {t : Shape} (cs : List Cable) {ds : List Cable} (r : Report Plan) → s ≡ t → ds ≡ cs → Laid run t ds r → Laid run s cs r
-as_read run s {t} cs r e d h = subst (λ (u : Shape). Laid run u cs r) (sym e) (subst (λ (es : List Cable). Laid run t es r) d h)
+-- the layout's lines of a sheet, by what was read of them
+pub as_read : (s : Shape) {t : Shape} (cs : List Cable) {ds : List Cable} (r : Report Plan) → s ≡ t → ds ≡ cs → Laid t ds r → Laid s cs r
+as_read s {t} cs r e d h = subst (λ (u : Shape). Laid u cs r) (sym e) (subst (λ (es : List Cable). Laid t es r) d h)
 
 -- what the exit of a `?` reports
 pub reported_err : {A B : Type 0} (seen : A → B) (P : Report B → Type 0) (f : Fault) (r : Result A Fault) → (y : Fault) × (r ≡ Err y) × (y ≡ f) →

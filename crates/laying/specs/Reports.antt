@@ -1,4 +1,4 @@
--- What a text is answered, line by line: an answer, or a fault.
+-- What a sheet is answered, line by line: an answer, or a fault.
 use Rattle.std.specs.Prelude.{ℕ, List, Ok, Err, Result}
 use Rattle.fabric.specs.Verdicts.{Verdict}
 use Rattle.fabric.specs.Verdicts.Verdict.{granted, refused}

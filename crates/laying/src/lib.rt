@@ -1,5 +1,4 @@
-// Lays out what a text names: its layout and its settings, or the fault at the line that is refused.
-// RUN is the number of the line with the settings; the count of cables, if there is one, stands at the next.
+// Lays out what a sheet names: its layout and its settings, or the fault at the line that is refused.
 #![tactic(auto)]
 
 ghost use Rattle.std.specs.Prelude.{◌≡◌, ℕ, ◌≤◌, [], slice_index};
@@ -20,23 +19,27 @@ use fabric::refusal::Refusal;
 use text::fault::{Fault, Layer};
 use text::parts::Run;
 
+// The lines of a sheet that every refusal but a cable's has.
 const LAYOUT_LINE: u32 = 1;
 
+const RUN_LINE: u32 = 3;
+
+const CABLES_LINE: u32 = 4;
+
 // The line at which a layout is refused.
-fn line_of<const RUN: u8>(refusal: Refusal) -> u32
+fn line_of(refusal: Refusal) -> u32
     requires { slice_index (numbered refusal).1 0 ≤ 256 }
-    ensures { result ≡ layout_line RUN (numbered refusal).0 (numbered refusal).1 }
+    ensures { result ≡ layout_line (numbered refusal).0 (numbered refusal).1 }
 {
-    let cables_line = u32::from(RUN) + 1;
     match refusal {
-        Refusal::Cable(i) => cables_line + 1 + i as u32,
-        Refusal::Unreached(_) => cables_line,
+        Refusal::Cable(i) => CABLES_LINE + 1 + i as u32,
+        Refusal::Unreached(_) => CABLES_LINE,
         _ => LAYOUT_LINE,
     }
 }
 
 pub fn lay_mesh(width: u32, height: u32) -> Result<Mesh, Fault>
-    ensures { (run : ℕ) → Laid run (Form.Mesh width height) [] (reported ⟦<Mesh as Layout>⟧.plan result) }
+    ensures { Laid (Form.Mesh width height) [] (reported ⟦<Mesh as Layout>⟧.plan result) }
 {
     Mesh::new(width as usize, height as usize).map_err(|refusal| Fault {
         refusal,
@@ -46,8 +49,8 @@ pub fn lay_mesh(width: u32, height: u32) -> Result<Mesh, Fault>
 }
 
 // Joins so many nodes by the cables.
-pub fn lay_cables<const RUN: u8>(nodes: u32, cables: &[Cable]) -> Result<Cabled, Fault>
-    ensures { Laid RUN (Form.Cabled nodes) cables.now (reported plan_of result) }
+pub fn lay_cables(nodes: u32, cables: &[Cable]) -> Result<Cabled, Fault>
+    ensures { Laid (Form.Cabled nodes) cables.now (reported plan_of result) }
 {
     let mut layout = Cabled::new();
     // A match: a closure for `map_err` would need a clause of its own, for what `line_of` asks.
@@ -56,7 +59,7 @@ pub fn lay_cables<const RUN: u8>(nodes: u32, cables: &[Cable]) -> Result<Cabled,
         Err(refusal) => Err(Fault {
             refusal,
             layer: Layer::Layout,
-            line: line_of::<RUN>(refusal),
+            line: line_of(refusal),
         }),
     }
 }
@@ -74,12 +77,12 @@ pub fn settings(run: Run) -> Settings
 }
 
 // The fault of settings that a network refuses.
-pub fn at_run_line<const RUN: u8>(refusal: Refusal) -> Fault
-    ensures { told result ≡ (number refusal, Network, RUN) }
+pub fn at_run_line(refusal: Refusal) -> Fault
+    ensures { told result ≡ (number refusal, Network, 3) }
 {
     Fault {
         refusal,
         layer: Layer::Network,
-        line: u32::from(RUN),
+        line: RUN_LINE,
     }
 }

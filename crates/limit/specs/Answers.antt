@@ -1,14 +1,12 @@
--- What a question is answered: the plan of its layout and the limits of its settings, or a fault.
-use Rattle.std.specs.Prelude.{◌≡◌, ℕ, ◌+◌, ◌≤◌, ◌⊎◌, List, length}
+-- What a sheet is answered: the plan of its layout and the limits of its settings, or a fault.
+use Rattle.std.specs.Prelude.{◌≡◌, ℕ, ◌+◌, ◌≤◌, ◌⊎◌, List}
 use Rattle.fabric.specs.declared.parts.Flit.{Flit}
 use Rattle.fabric.specs.Layouts.{Plan}
 use Rattle.fabric.specs.Meshes.{mesh_plan}
-use Rattle.fabric.specs.Verdicts.{granting}
 use Rattle.cabled.specs.Plans.{plan_of}
 use Rattle.switch.specs.Switches.{Handing, Turn, LawfulSwitch}
 use Rattle.bounds.specs.declared.settings.Settings.{Settings}
 use Rattle.bounds.specs.declared.limits.Limits.{Limits}
-use Rattle.bounds.specs.SetUp.{set_up_verdict}
 use Rattle.bounds.specs.Lateness.{limits_of}
 use Rattle.network.specs.Log.Happening.{entered}
 use Rattle.network.specs.Cycle.{State}
@@ -17,16 +15,13 @@ use Rattle.network.specs.Promises.{Stands, OffOnce}
 use Rattle.text.specs.declared.fault.Fault.{Fault}
 use Rattle.text.specs.declared.parts.Run.{Run}
 use Rattle.text.specs.Faults.{told}
-use Rattle.sheet.specs.Questions.{Asked, Formed, Refused, asked_text}
+use Rattle.runsheet.specs.Said.{Said}
+use Rattle.runsheet.specs.Sheets.{SheetText, Refused}
 use Rattle.limit.specs.declared.answer.Answer.{Answer}
 use Rattle.limit.specs.declared.answer.Answer.TheVariants.{OnMesh, OnCables}
-use Rattle.laying.specs.Layings.{Laid, settings_of, at_run_line}
+use Rattle.laying.specs.Layings.{settings_of, Judged}
 use Rattle.laying.specs.Reports.{Report, then}
 use Rattle.laying.specs.Reports.Report.{answers, faults}
-
--- what the run's line is answered, which is the second, on a layout of this plan
-abbrev pub limited : Run → Plan → Report Limits
-limited r p = at_run_line 2 (granting (λ _. limits_of p (settings_of r)) (set_up_verdict p (settings_of r)))
 
 -- in every network of this plan and these settings, whatever its switch and whatever calls come,
 -- a flit that entered is taken off, once and at its destination, once l more cycles are carried out
@@ -40,14 +35,14 @@ abbrev pub Vouched : Run → Report (Plan × Limits) → Type 0
 Vouched r (answers a) = OffWithin a.0 (settings_of r) a.1.latest
 Vouched r (faults x) = Unit {0}
 
--- the layout is judged before the settings
-abbrev pub Answers : Asked → Report (Plan × Limits) → Type 0
-Answers q r = (v : Report Plan) × Laid 2 q.shape q.cables v × (r ≡ then v (λ p. then (limited q.run p) (λ l. answers (p, l))))
+-- the limits of the settings on the layout's plan, where both are accepted
+abbrev pub Answers : Said → Report (Plan × Limits) → Type 0
+Answers s r = (v : Report Plan) × Judged s.shape s.cables s.run v × (r ≡ then v (λ p. answers (p, limits_of p (settings_of s.run))))
 
--- the bytes are a question's text and it is answered, or they are none, by this fault
+-- the bytes are a sheet's text and it is answered, or they are none, by this fault
 abbrev pub Answered : List ℕ → Report (Plan × Limits) → Type 0
 Answered bs r =
-    ((q : Asked) × (length bs ≤ 65536) × Formed 128 q × (bs ≡ asked_text q) × Answers q r × Vouched q.run r)
+    ((s : Said) × SheetText bs s × Answers s r × Vouched s.run r)
     ⊎ ((f : Fault) × Refused bs f × (r ≡ faults (told f)))
 
 -- what an answer of the code means

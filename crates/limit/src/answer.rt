@@ -1,22 +1,20 @@
-// What a question is answered.
+// What a sheet is answered.
 ghost use Rattle.std.specs.Prelude.{◌≡◌, IfOk};
-ghost use Rattle.laying.specs.Layings.{settings_of};
+ghost use Rattle.laying.specs.Layings.{settings_of, settled};
 ghost use Rattle.laying.specs.Reports.{reported};
-ghost use Rattle.limit.specs.Answers.{limited, OffWithin, Answered, meant};
+ghost use Rattle.bounds.specs.Lateness.{limits_of};
+ghost use Rattle.limit.specs.Answers.{OffWithin, Answered, meant};
 
 use bounds::limits::Limits;
 use cabled::cabled::Cabled;
 use fabric::layout::Layout;
 use fabric::mesh::Mesh;
 use laying::{at_run_line, lay_cables, lay_mesh, settings};
-use sheet::question;
+use runsheet::reader::read;
 use text::fault::Fault;
 use text::parts::{Run, Shape};
 
-// The line of a question's run.
-const RUN_LINE: u8 = 2;
-
-// The layout that a question asks for, and the limits of its settings.
+// The layout that a sheet names, and the limits of its settings.
 #[derive(Clone, Copy)]
 pub enum Answer {
     OnMesh(Mesh, Limits),
@@ -24,25 +22,26 @@ pub enum Answer {
 }
 
 fn bound<L: Layout>(layout: &L, run: Run) -> Result<Limits, Fault>
-    ensures exact { reported (λ l. l) result ≡ limited run (L.plan layout.now) }
+    ensures judged { reported (λ _. L.plan layout.now) result ≡ settled run (L.plan layout.now) }
+    ensures exact { IfOk result (λ l. l ≡ limits_of (L.plan layout.now) (settings_of run)) }
     ensures kept { IfOk result (λ l. OffWithin (L.plan layout.now) (settings_of run) l.latest) }
 {
-    Limits::of(layout, settings(run)).map_err(at_run_line::<RUN_LINE>)
+    Limits::of(layout, settings(run)).map_err(at_run_line)
 }
 
 pub fn reply(bytes: &[u8]) -> Result<Answer, Fault>
     ensures { Answered bytes.now (reported meant result) }
 {
-    let question = question::read(bytes)?;
-    match question.shape {
+    let sheet = read(bytes)?;
+    match sheet.shape {
         Shape::Mesh { width, height } => {
             let mesh = lay_mesh(width, height)?;
-            let limits = bound(&mesh, question.run)?;
+            let limits = bound(&mesh, sheet.run)?;
             Ok(Answer::OnMesh(mesh, limits))
         }
         Shape::Cabled { nodes } => {
-            let layout = lay_cables::<RUN_LINE>(nodes, question.cables())?;
-            let limits = bound(&layout, question.run)?;
+            let layout = lay_cables(nodes, sheet.cables())?;
+            let limits = bound(&layout, sheet.run)?;
             Ok(Answer::OnCables(layout, limits))
         }
     }
@@ -64,24 +63,45 @@ mod tests {
     #[test]
     fn faults_in_their_order(rt: HostRuntime) -> Result<(), Fail> {
         let table = [
-            ("mesh 64 1\nrun 8 4 4096 65535 65535\n", ""),
-            ("mesh 13 5\nrun 9 2 7 0\n", "fault sheet 16 2"),
-            ("mesh 13 5\nrun 9 2 7 0 1\n", "fault layout 12 1"),
-            ("mesh 3 2\nrun 9 2 7 0 1\n", "fault network 1 2"),
-            ("mesh 3 2\nrun 1 2 7 0 1\n", "fault network 2 2"),
-            ("mesh 3 2\nrun 1 2 8 0 1\n", "fault network 3 2"),
-            ("cabled 2\nrun 1 2 4 1 1\ncables 1\n0 E 1 W\n", ""),
             (
-                "cabled 0\nrun 1 2 4 1 1\ncables 1\n0 E 1 W\n",
+                "mesh 64 1\nswitch bless\nrun 8 4 4096 65535 65535\ncables 0\npackets 0\n",
+                "",
+            ),
+            (
+                "mesh 13 5\nswitch bless\nrun 9 2 7 0\ncables 0\npackets 0\n",
+                "fault sheet 16 3",
+            ),
+            (
+                "mesh 13 5\nswitch bless\nrun 9 2 7 0 1\ncables 0\npackets 0\n",
                 "fault layout 12 1",
             ),
             (
-                "cabled 2\nrun 9 2 4 1 1\ncables 2\n0 E 1 W\n0 S 1 W\n",
-                "fault layout 13 5",
+                "mesh 3 2\nswitch bless\nrun 9 2 7 0 1\ncables 0\npackets 0\n",
+                "fault network 1 3",
             ),
             (
-                "cabled 3\nrun 9 2 4 1 1\ncables 1\n0 E 1 W\n",
-                "fault layout 14 3",
+                "mesh 3 2\nswitch bless\nrun 1 2 7 0 1\ncables 0\npackets 0\n",
+                "fault network 2 3",
+            ),
+            (
+                "mesh 3 2\nswitch bless\nrun 1 2 8 0 1\ncables 0\npackets 0\n",
+                "fault network 3 3",
+            ),
+            (
+                "cabled 2\nswitch chipper\nrun 1 2 4 1 1\ncables 1\n0 E 1 W\npackets 0\n",
+                "",
+            ),
+            (
+                "cabled 0\nswitch chipper\nrun 1 2 4 1 1\ncables 1\n0 E 1 W\npackets 0\n",
+                "fault layout 12 1",
+            ),
+            (
+                "cabled 2\nswitch chipper\nrun 9 2 4 1 1\ncables 2\n0 E 1 W\n0 S 1 W\npackets 0\n",
+                "fault layout 13 6",
+            ),
+            (
+                "cabled 3\nswitch chipper\nrun 9 2 4 1 1\ncables 1\n0 E 1 W\npackets 0\n",
+                "fault layout 14 4",
             ),
         ];
         for (text, fault) in table {

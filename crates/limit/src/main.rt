@@ -1,5 +1,5 @@
-// How late can a word be? Reads a layout line and a run line in the run sheet's form,
-// and prints the limits and the way of a lone flit between the nodes farthest apart.
+// How late can a word be? Reads a run sheet, and prints the limits of its network
+// and the way of a lone flit between the nodes farthest apart.
 #![tactic(auto)]
 
 mod answer;
@@ -10,7 +10,7 @@ use bounds::path::{farthest, path};
 use fabric::layout::Layout;
 use std::io::Read;
 
-// One byte more than a text may have is enough to see that it is too long.
+// One byte more than a sheet may have is enough to see that it is too long.
 const MOST_READ: u64 = 65537;
 
 fn report<L: Layout>(rt: &HostRuntime, layout: &L, limits: Limits) -> anyhow::Result<()> {

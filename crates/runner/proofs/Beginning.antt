@@ -7,11 +7,11 @@ use Rattle.bounds.specs.SetUp.{set_up_verdict}
 use Rattle.network.specs.Cycle.{Fabric}
 use Rattle.network.specs.Runs.{fresh}
 use Rattle.calls.specs.Follow.{Begins}
-use Rattle.runsheet.specs.declared.parts.Packet.{Packet}
+use Rattle.text.specs.declared.parts.Packet.{Packet}
 use Rattle.runsheet.specs.Said.{Said}
 use Rattle.text.specs.Texts.{Fits}
-use Rattle.runsheet.specs.Sheets.{Sized, Formed, packet_line}
-use Rattle.text.specs.Lines.{cable_line}
+use Rattle.text.specs.Lines.{Sized, packet_line, cable_line}
+use Rattle.runsheet.specs.Sheets.{Formed}
 use Rattle.writer.specs.declared.writer.Writer.{Writer}
 use Rattle.writer.specs.Listings.{beyond}
 use Rattle.runner.specs.Tallies.{Tallied}

@@ -8,16 +8,18 @@ use Rattle.fabric.specs.Verdicts.{Verdict, granting}
 use Rattle.fabric.specs.Verdicts.Verdict.{granted}
 use Rattle.text.specs.declared.fault.Fault.{Fault}
 use Rattle.text.specs.declared.fault.Layer.{Layer}
+use Rattle.text.specs.declared.fault.Layer.TheVariants.{Network}
 use Rattle.text.specs.Faults.{told}
 use Rattle.runsheet.specs.Said.{Said}
 use Rattle.runsheet.specs.Sheets.{SheetText}
 use Rattle.text.specs.Texts.{written}
 use Rattle.laying.specs.Reports.Report.{answers, faults}
-use Rattle.laying.specs.Layings.{Laid, at_run_line}
+use Rattle.laying.specs.Reports.{by_layer}
+use Rattle.laying.specs.Layings.{Laid, Judged}
 use Rattle.writer.specs.declared.writer.Writer.{Writer}
 use Rattle.writer.specs.Listings.{listed, beyond, Appends, LineOut, fault_fields}
 use Rattle.writer.proofs.Outcomes.{with_room}
-use Rattle.runner.specs.Answering.{network_of, Judged, Listing, WrittenOut, Blank, Holds, Ended, Faulted, Carried}
+use Rattle.runner.specs.Answering.{network_of, Listing, WrittenOut, Blank, Holds, Ended, Faulted, Carried}
 use Rattle.runner.specs.Answering.WrittenOut.{listing}
 use Rattle.runner.proofs.Telling.{ok_shown}
 
@@ -25,14 +27,14 @@ use Rattle.runner.proofs.Telling.{ok_shown}
 pub faulted : (text : List ℕ) {w v : Writer} (f : Fault) (r : Result (Unit {0}) Fault) → (y : Fault) × (r ≡ Err y) × (y ≡ f) → v ≡ w → Faulted text f → Carried text w v r
 faulted text {w} {v} f r (y, e, i) same h = subst (λ x. Carried text w v x) (sym e) (subst (λ x. Faulted text x) (sym i) h, same)
 
-pub no_layout : (s : Said) (x : ℕ × Layer × ℕ) → Laid 3 s.shape s.cables (faults x) → Judged s (faults x)
+pub no_layout : (s : Said) (x : ℕ × Layer × ℕ) → Laid s.shape s.cables (faults x) → Judged s.shape s.cables s.run (faults x)
 no_layout s x h = (faults x, h, refl)
 
 -- a layout was laid, and the run on it came to its end
-pub on_layout : (text : List ℕ) (s : Said) (w v : Writer) → SheetText text s → (p : Plan) → Laid 3 s.shape s.cables (answers p) → (r : Result (Unit {0}) Fault) → Ended (network_of p s) s w v r →
+pub on_layout : (text : List ℕ) (s : Said) (w v : Writer) → SheetText text s → (p : Plan) → Laid s.shape s.cables (answers p) → (r : Result (Unit {0}) Fault) → Ended (network_of p s) s w v r →
     Carried text w v r
 on_layout text s w v read p laid (Ok u) h =
-    (s, read, (p, (answers p, laid, sym (ap (λ (x : Verdict (Unit {0})). at_run_line 3 (granting (λ _. p) x)) h.0)), h.1))
+    (s, read, (p, (answers p, laid, sym (ap (λ (x : Verdict (Unit {0})). by_layer Network (λ _ _. 3) (granting (λ _. p) x)) h.0)), h.1))
 on_layout text s w v read p laid (Err f) h = (inl (s, read, (answers p, laid, sym h.0)), h.1)
 
 -- the fault's line is the whole listing

@@ -19,7 +19,7 @@ use Rattle.network.specs.Runs.Serves.{cycle_granted}
 use Rattle.network.specs.Promises.{puts}
 use Rattle.network.specs.Computed.{done, cycled, next, outcome}
 use Rattle.network.proofs.Solving.{cycle_one, served_one}
-use Rattle.runsheet.specs.declared.parts.Packet.{Packet}
+use Rattle.text.specs.declared.parts.Packet.{Packet}
 use Rattle.text.specs.Texts.{Field, text}
 use Rattle.writer.specs.Listings.{no_line, done_line, end_line}
 use Rattle.runner.specs.Listing.{line_of, ins, outs, under_way, mean_of, offer_of, Offers, Collects, Turn, Turns, Lists}

@@ -18,9 +18,9 @@ use Rattle.network.specs.Promises.{puts}
 use Rattle.network.specs.Runs.Outcome.{offering, cycling, collecting}
 use Rattle.calls.specs.declared.tables.Tables.{Tables}
 use Rattle.calls.specs.Follow.{Promised}
-use Rattle.runsheet.specs.declared.parts.Packet.{Packet}
+use Rattle.text.specs.declared.parts.Packet.{Packet}
 use Rattle.text.specs.Texts.{Field, Fits, number, written, text}
-use Rattle.runsheet.specs.Sheets.{payload}
+use Rattle.text.specs.Lines.{payload}
 use Rattle.writer.specs.declared.writer.Writer.{Writer}
 use Rattle.writer.specs.Listings.{beyond, Appends, LineOut, no_line, done_line, end_line}
 use Rattle.writer.proofs.Outcomes.{with_room}

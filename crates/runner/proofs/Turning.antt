@@ -8,7 +8,7 @@ use Rattle.network.specs.declared.event.Event.{Event}
 use Rattle.network.specs.Cycle.{Fabric, State}
 use Rattle.network.specs.Runs.{fresh}
 use Rattle.network.specs.Promises.{puts}
-use Rattle.runsheet.specs.declared.parts.Packet.{Packet}
+use Rattle.text.specs.declared.parts.Packet.{Packet}
 use Rattle.text.specs.Texts.{Field}
 use Rattle.runsheet.specs.Sheets.{Rising}
 use Rattle.writer.specs.declared.writer.Writer.{Writer}

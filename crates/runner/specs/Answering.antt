@@ -1,7 +1,7 @@
 -- The listing of any bytes: of the run of the sheet whose text they are, or of their fault.
 use Rattle.std.specs.Prelude.{◌≡◌, ℕ, ◌<◌, ◌≤◌, ◌⊎◌, List, [], ◌++◌, length, drop, Result, MatchResult}
 use Rattle.fabric.specs.Layouts.{Plan}
-use Rattle.fabric.specs.Verdicts.{Verdict, granting}
+use Rattle.fabric.specs.Verdicts.{Verdict}
 use Rattle.fabric.specs.Verdicts.Verdict.{granted, refused}
 use Rattle.switch.specs.Switches.{Handing, Turn}
 use Rattle.switch.specs.Chippers.{chipper_turn}
@@ -9,16 +9,16 @@ use Rattle.switch.specs.Blesses.{bless_turn}
 use Rattle.bounds.specs.SetUp.{set_up_verdict}
 use Rattle.network.specs.Cycle.{Fabric}
 use Rattle.text.specs.declared.fault.Fault.{Fault}
-use Rattle.runsheet.specs.declared.parts.SwitchKind.{SwitchKind}
-use Rattle.runsheet.specs.declared.parts.SwitchKind.TheVariants.{Chipper, Bless}
+use Rattle.text.specs.declared.parts.SwitchKind.{SwitchKind}
+use Rattle.text.specs.declared.parts.SwitchKind.TheVariants.{Chipper, Bless}
 use Rattle.text.specs.Faults.{told}
 use Rattle.runsheet.specs.declared.sheet.Sheet.{Sheet}
 use Rattle.runsheet.specs.Said.{Said, said}
 use Rattle.runsheet.specs.Sheets.{SheetText, Refused, Formed}
 use Rattle.text.specs.Texts.{written}
-use Rattle.laying.specs.Reports.{Report, then}
+use Rattle.laying.specs.Reports.{Report}
 use Rattle.laying.specs.Reports.Report.{answers, faults}
-use Rattle.laying.specs.Layings.{Laid, settings_of, at_run_line}
+use Rattle.laying.specs.Layings.{settings_of, settled, Judged}
 use Rattle.writer.specs.declared.writer.Writer.{Writer}
 use Rattle.writer.specs.Listings.{listed, beyond, fault_fields}
 use Rattle.runner.specs.Listing.{Lists}
@@ -35,10 +35,6 @@ made_of p t = record { plan = p; turn = t }
 abbrev pub network_of : Plan → Said → Fabric
 network_of p s = made_of p (turn_of s.kind)
 
--- the layout is judged before the settings, and a sheet's run is its third line: the plan, or a fault
-abbrev pub Judged : Said → Report Plan → Type 0
-Judged s r = (v : Report Plan) × Laid 3 s.shape s.cables v × (r ≡ then v (λ p. at_run_line 3 (granting (λ _. p) (set_up_verdict p (settings_of s.run)))))
-
 -- the listing of a sheet that is answered so
 abbrev pub ListsSheet : Said → Report Plan → List ℕ → Type 0
 ListsSheet s (answers p) bs = Lists (network_of p s) (settings_of s.run) s.packets s.run.cycles bs
@@ -47,7 +43,7 @@ ListsSheet s (faults x) bs = bs ≡ written (fault_fields x)
 -- the listing of any bytes
 abbrev pub Listing : List ℕ → List ℕ → Type 0
 Listing text bs =
-    ((s : Said) × SheetText text s × ((r : Report Plan) × Judged s r × ListsSheet s r bs))
+    ((s : Said) × SheetText text s × ((r : Report Plan) × Judged s.shape s.cables s.run r × ListsSheet s r bs))
     ⊎ ((f : Fault) × Refused text f × (bs ≡ written (fault_fields (told f))))
 
 -- the listing is written at the start of a memory of 65,536 bytes or more, which it never fills, and the rest of the memory stays;
@@ -81,14 +77,14 @@ Ran F s w v (refused k vs) = (set_up_verdict F.plan (settings_of s.run) ≡ refu
 -- the same, with the fault of settings that are refused
 abbrev pub Ended : Fabric → Said → Writer → Writer → Result (Unit {0}) Fault → Type 0
 Ended F s w v r =
-    MatchResult r (λ _. Ran F s w v (granted tt)) (λ f. (at_run_line 3 (granting (λ _. F.plan) (set_up_verdict F.plan (settings_of s.run))) ≡ faults (told f)) × (v ≡ w))
+    MatchResult r (λ _. Ran F s w v (granted tt)) (λ f. (settled s.run F.plan ≡ faults (told f)) × (v ≡ w))
 
 -- the bytes are no sheet's text, or that of a sheet whose layout or settings are refused
 abbrev pub Faulted : List ℕ → Fault → Type 0
-Faulted text f = ((s : Said) × SheetText text s × Judged s (faults (told f))) ⊎ Refused text f
+Faulted text f = ((s : Said) × SheetText text s × Judged s.shape s.cables s.run (faults (told f))) ⊎ Refused text f
 
 -- what bytes are answered
 abbrev pub Carried : List ℕ → Writer → Writer → Result (Unit {0}) Fault → Type 0
 Carried text w v r =
-    MatchResult r (λ _. (s : Said) × SheetText text s × ((p : Plan) × Judged s (answers p) × ((bs : List ℕ) × ListsSheet s (answers p) bs × Holds w bs v)))
+    MatchResult r (λ _. (s : Said) × SheetText text s × ((p : Plan) × Judged s.shape s.cables s.run (answers p) × ((bs : List ℕ) × ListsSheet s (answers p) bs × Holds w bs v)))
     (λ f. Faulted text f × (v ≡ w))

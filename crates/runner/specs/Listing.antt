@@ -15,8 +15,8 @@ use Rattle.network.specs.Runs.{Call, Serves, ticket, fresh}
 use Rattle.network.specs.Runs.Call.{offer, cycle, collect}
 use Rattle.network.specs.Runs.Outcome.{offering, cycling, collecting}
 use Rattle.network.specs.Promises.{puts}
-use Rattle.runsheet.specs.declared.parts.Packet.{Packet}
-use Rattle.runsheet.specs.Sheets.{payload}
+use Rattle.text.specs.declared.parts.Packet.{Packet}
+use Rattle.text.specs.Lines.{payload}
 use Rattle.text.specs.Texts.{Field, text}
 use Rattle.writer.specs.Listings.{event_line, no_line, done_line, end_line}
 

@@ -3,7 +3,7 @@ use Rattle.std.specs.Prelude.{◌≡◌, ℕ, List}
 use Rattle.fabric.specs.Layouts.{Lawful}
 use Rattle.bounds.specs.declared.settings.Settings.{Settings}
 use Rattle.network.specs.Cycle.{Fabric}
-use Rattle.runsheet.specs.declared.parts.Packet.{Packet}
+use Rattle.text.specs.declared.parts.Packet.{Packet}
 use Rattle.runner.specs.Listing.{Lists}
 
 -- a run of a sheet has one listing: whatever lines of events its cycles are called with

@@ -16,9 +16,10 @@ use Rattle.network.specs.Runs.Outcome.{cycling}
 use Rattle.network.specs.Promises.{puts}
 use Rattle.calls.specs.declared.tables.Tables.{Tables}
 use Rattle.calls.specs.Follow.{Follows}
-use Rattle.runsheet.specs.declared.parts.Packet.{Packet}
+use Rattle.text.specs.declared.parts.Packet.{Packet}
 use Rattle.text.specs.Texts.{Field, Fits, text}
-use Rattle.runsheet.specs.Sheets.{Sized, Rising, packet_line}
+use Rattle.text.specs.Lines.{Sized, packet_line}
+use Rattle.runsheet.specs.Sheets.{Rising}
 use Rattle.writer.specs.declared.writer.Writer.{Writer}
 use Rattle.writer.specs.Listings.{listed, beyond}
 use Rattle.runner.specs.declared.tally.Tally.{Tally}

@@ -12,23 +12,19 @@ use calls::Network;
 use fabric::layout::Layout;
 use fabric::refusal::Refusal;
 use laying::{at_run_line, lay_cables, lay_mesh, settings};
-use runsheet::parts::{Packet, SwitchKind};
 use runsheet::reader::read;
 use runsheet::sheet::Sheet;
 use switch::bless::Bless;
 use switch::chipper::Chipper;
 use switch::switch::Switch;
 use text::fault::Fault;
-use text::parts::Shape;
+use text::parts::{Packet, Shape, SwitchKind};
 use writer::Writer;
 
 // No listing is longer; a shorter memory is refused.
 pub const MEMORY: usize = 65536;
 
 const PACKETS: usize = 256;
-
-// The line of a sheet's run.
-const RUN_LINE: u8 = 3;
 
 // The sheet's run in a network of this layout and this switch.
 fn start<L: Layout + Drop, S: Switch + Drop>(
@@ -67,7 +63,7 @@ fn run<L: Layout + Drop, S: Switch + Drop>(
     ensures ended { Ended (made_of (L.plan layout) (S.turn switch)) (said sheet.now) writer.old writer.new result }
     ensures lender { SameLender writer.old writer.new }
 {
-    start(layout, switch, sheet, writer).map_err(at_run_line::<RUN_LINE>)
+    start(layout, switch, sheet, writer).map_err(at_run_line)
 }
 
 // The sheet's run on this layout, with the sheet's kind of switch.
@@ -94,7 +90,7 @@ fn carry_out(bytes: &[u8], writer: &mut Writer) -> Result<(), Fault>
             run_on(mesh, &sheet, writer)
         }
         Shape::Cabled { nodes } => {
-            let layout = lay_cables::<RUN_LINE>(nodes, sheet.cables())?;
+            let layout = lay_cables(nodes, sheet.cables())?;
             run_on(layout, &sheet, writer)
         }
     }

@@ -4,7 +4,7 @@ ghost use Rattle.runner.specs.Progress.{coming, NoneDue, SamePlaces};
 
 use fabric::refusal::Refusal;
 use line::Line;
-use runsheet::parts::Packet;
+use text::parts::Packet;
 
 // The next one, and those behind it.
 #[derive(Drop)]

@@ -7,16 +7,16 @@ use Rattle.fabric.specs.declared.parts.Port.TheVariants.{N}
 use Rattle.fabric.specs.declared.parts.Cable.{Cable as Wire}
 use Rattle.text.specs.Texts.{Field, Fits, row}
 use Rattle.runsheet.specs.Said.{Said}
-use Rattle.runsheet.specs.Sheets.{lines, Formed, Sized, Rising, kind_line, packets_line, packet_line}
-use Rattle.text.specs.Lines.{Uncabled, shape_line, run_line, cables_line, cable_line}
+use Rattle.text.specs.Lines.{Sized, kind_line, packets_line, packet_line, Uncabled, shape_line, run_line, cables_line, cable_line}
+use Rattle.runsheet.specs.Sheets.{lines, Formed, Rising}
 use Rattle.runsheet.specs.Reading.{Draft, entry_line, Suits, cabled_lines, all_lines, so_far, Stage, latest, Valid}
-use Rattle.runsheet.specs.declared.parts.Packet.{Packet as Plan}
+use Rattle.text.specs.declared.parts.Packet.{Packet as Plan}
 use Rattle.runsheet.specs.declared.reader.Section.{Section}
 use Rattle.runsheet.specs.declared.reader.Section.TheVariants as section
 use Rattle.runsheet.specs.declared.reader.Entry.{Entry}
 use Rattle.runsheet.specs.declared.reader.Entry.TheVariants as entry
-use Rattle.runsheet.proofs.Apart.{fits_cables, fits_packets, same_packets, same_cycle}
-use Rattle.text.proofs.Tidy.{same_cables, same_uncabled}
+use Rattle.runsheet.proofs.Apart.{fits_cables, fits_packets}
+use Rattle.text.proofs.Tidy.{same_cables, same_uncabled, same_packets, same_cycle}
 use Rattle.text.proofs.Aligned.{Agree}
 use Rattle.runsheet.proofs.Moves.{length_cabled, length_all}
 

@@ -2,6 +2,5 @@ mod Apart
 mod Filling
 mod Following
 mod Moves
-mod Payload
 mod Sections
 mod Stopped

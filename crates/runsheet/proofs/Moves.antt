@@ -7,10 +7,10 @@ use Rattle.std.proofs.lemmas.Bool.{cond_both, ltb-true, ltb-false}
 use Rattle.batch.specs.Items.{joined}
 use Rattle.batch.proofs.Rooms.{joined_room}
 use Rattle.text.specs.Texts.{Fits}
-use Rattle.runsheet.specs.Sheets.{Sized, Rising, packets_line, packet_line}
-use Rattle.text.specs.Lines.{cable_line}
+use Rattle.text.specs.Lines.{Sized, packets_line, packet_line, cable_line}
+use Rattle.runsheet.specs.Sheets.{Rising}
 use Rattle.runsheet.specs.Reading.{Draft, Suits, cabled_lines, all_lines, so_far, Stage, latest, Valid, Grown, after}
-use Rattle.runsheet.specs.declared.parts.Packet.{Packet as Plan}
+use Rattle.text.specs.declared.parts.Packet.{Packet as Plan}
 use Rattle.runsheet.specs.declared.reader.Section.{Section}
 use Rattle.runsheet.specs.declared.reader.Section.TheVariants as section
 use Rattle.runsheet.specs.declared.reader.Entry.{Entry}

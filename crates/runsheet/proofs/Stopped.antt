@@ -6,17 +6,17 @@ use Rattle.std.proofs.ByRecursion.{All-get_or}
 use Rattle.fabric.specs.declared.parts.Cable.{Cable as Wire}
 use Rattle.text.specs.Texts.{Field, Fits, Free, Lined, row, written, text, Barred}
 use Rattle.runsheet.specs.Said.{Said}
-use Rattle.runsheet.specs.Sheets.{lines, Formed, SheetText, Refused, packets_line, packet_line, kind_line}
-use Rattle.text.specs.Lines.{cables_line, cable_line, shape_line, run_line}
+use Rattle.text.specs.Lines.{packets_line, packet_line, kind_line, cables_line, cable_line, shape_line, run_line}
+use Rattle.runsheet.specs.Sheets.{lines, Formed, SheetText, Refused}
 use Rattle.text.specs.Faults.{told, ill_formed, too_many, GoesOn, Stops}
 use Rattle.runsheet.specs.Reading.{Draft, entry_line, Suits, Exceeds, cabled_lines, so_far, lines_read, Stage, Valid, Refuses}
 use Rattle.text.specs.declared.fault.Fault.{Fault}
-use Rattle.runsheet.specs.declared.parts.Packet.{Packet as Plan}
+use Rattle.text.specs.declared.parts.Packet.{Packet as Plan}
 use Rattle.runsheet.specs.declared.reader.Section.TheVariants as section
 use Rattle.runsheet.specs.declared.reader.Entry.{Entry}
 use Rattle.runsheet.specs.declared.reader.Entry.TheVariants as entry
-use Rattle.text.proofs.Tidy.{Tidy, tidy_cables, same_cables}
-use Rattle.runsheet.proofs.Apart.{tidy_entry, tidy_lines, tidy_packets, fits_packets, same_packets, all_left}
+use Rattle.text.proofs.Tidy.{Tidy, tidy_cables, same_cables, tidy_packets, same_packets}
+use Rattle.runsheet.proofs.Apart.{tidy_entry, tidy_lines, fits_packets, all_left}
 use Rattle.text.proofs.Aligned.{Agree, Matched, cut}
 use Rattle.text.proofs.Stopping.{along, goes_on, halted, onward, is_line, no_line, other_line}
 use Rattle.runsheet.proofs.Sections.{unlike}

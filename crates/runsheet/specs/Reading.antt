@@ -6,13 +6,13 @@ use Rattle.fabric.specs.declared.parts.Cable.{Cable as Wire}
 use Rattle.text.specs.Texts.{Field, Fits, shown, Any}
 use Rattle.text.specs.Fields.{Unlike}
 use Rattle.text.specs.Faults.{told, ill_formed, too_many}
-use Rattle.text.specs.Lines.{shape_line, run_line, cables_line, cable_line, Brief, Uncabled}
-use Rattle.runsheet.specs.Sheets.{kind_line, packets_line, packet_line, Sized, Rising}
+use Rattle.text.specs.Lines.{shape_line, run_line, cables_line, cable_line, Brief, Uncabled, kind_line, packets_line, packet_line, Sized}
+use Rattle.runsheet.specs.Sheets.{Rising}
 use Rattle.text.specs.declared.fault.Fault.{Fault}
 use Rattle.text.specs.declared.parts.Shape.{Shape}
-use Rattle.runsheet.specs.declared.parts.SwitchKind.{SwitchKind}
+use Rattle.text.specs.declared.parts.SwitchKind.{SwitchKind}
 use Rattle.text.specs.declared.parts.Run.{Run as Settings}
-use Rattle.runsheet.specs.declared.parts.Packet.{Packet as Plan}
+use Rattle.text.specs.declared.parts.Packet.{Packet as Plan}
 use Rattle.runsheet.specs.declared.reader.Section.{Section}
 use Rattle.runsheet.specs.declared.reader.Section.TheVariants as section
 use Rattle.runsheet.specs.declared.reader.Entry.{Entry}

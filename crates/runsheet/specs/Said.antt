@@ -3,9 +3,9 @@ use Rattle.std.specs.Prelude.{List}
 use Rattle.batch.specs.Items.{items}
 use Rattle.fabric.specs.declared.parts.Cable.{Cable}
 use Rattle.text.specs.declared.parts.Shape.{Shape}
-use Rattle.runsheet.specs.declared.parts.SwitchKind.{SwitchKind}
+use Rattle.text.specs.declared.parts.SwitchKind.{SwitchKind}
 use Rattle.text.specs.declared.parts.Run.{Run}
-use Rattle.runsheet.specs.declared.parts.Packet.{Packet}
+use Rattle.text.specs.declared.parts.Packet.{Packet}
 use Rattle.runsheet.specs.declared.sheet.Sheet.{Sheet}
 
 pub record Said : Type 0 where

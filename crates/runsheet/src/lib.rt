@@ -1,7 +1,5 @@
 // Run sheets: what they say where they are of their form, and their faults where they are not.
 #![tactic(auto)]
 
-pub mod parts;
 pub mod reader;
-mod rows;
 pub mod sheet;

@@ -9,16 +9,14 @@ ghost use Rattle.runsheet.specs.Said.{said};
 ghost use Rattle.runsheet.specs.Sheets.{SheetText, Refused};
 ghost use Rattle.runsheet.specs.Reading.{entry_line, draft, Suits, Judges, Within, Exceeds, Valid, Grown, Reached, Refuses, after};
 
-use super::parts::{MOST_PACKETS, Packet, SwitchKind};
-use super::rows;
 use super::sheet::Sheet;
 use batch::Batch;
 use fabric::parts::Cable;
 use text::fault::Fault;
 use text::field::{Fields, is};
 use text::lines::Lines;
-use text::parts::{MOST_CABLES, Run, Shape};
-use text::rows as shared;
+use text::parts::{MOST_CABLES, MOST_PACKETS, Packet, Run, Shape, SwitchKind};
+use text::rows;
 
 // What the next line has to be.
 #[derive(Clone, Copy)]
@@ -114,18 +112,18 @@ impl Reader {
         let (mut whole, mut fields) = (*line, *line);
         let word = fields.word()?;
         match (self.section, word) {
-            (Section::Layout, w) if is(w, b"mesh") => shared::mesh(&mut fields).map(Entry::Shape),
+            (Section::Layout, w) if is(w, b"mesh") => rows::mesh(&mut fields).map(Entry::Shape),
             (Section::Layout, w) if is(w, b"cabled") => {
-                shared::cabled(&mut fields).map(Entry::Shape)
+                rows::cabled(&mut fields).map(Entry::Shape)
             }
             (Section::Switch, w) if is(w, b"switch") => rows::switch(&mut fields).map(Entry::Kind),
-            (Section::Run, w) if is(w, b"run") => shared::run(&mut fields).map(Entry::Run),
+            (Section::Run, w) if is(w, b"run") => rows::run(&mut fields).map(Entry::Run),
             (Section::Cables, w) if is(w, b"cables") => {
                 rows::cables(&mut fields, self.shape).map(Entry::Cables)
             }
-            (Section::Cable, _) => shared::cable(&mut whole).map(Entry::Cable),
+            (Section::Cable, _) => rows::cable(&mut whole).map(Entry::Cable),
             (Section::Packets, w) if is(w, b"packets") => {
-                shared::count(&mut fields).map(Entry::Packets)
+                rows::count(&mut fields).map(Entry::Packets)
             }
             (Section::Packet, _) => rows::packet(&mut whole, self.last).map(Entry::Packet),
             _ => Err(line.fault()),
@@ -211,7 +209,6 @@ mod tests {
     use std::test::Fail;
 
     // The number and the line by which the text is refused, or zeros where it is read.
-    // Also in the tests of the other reader: a crate lends no tests.
     fn refused(text: &str) -> (u8, u32) {
         match read(text.as_bytes()) {
             Err(fault) => (fault.refusal.number(), fault.line),

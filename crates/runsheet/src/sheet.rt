@@ -1,8 +1,7 @@
 // A run sheet, as it was read.
-use super::parts::{MOST_PACKETS, Packet, SwitchKind};
 use batch::Batch;
 use fabric::parts::Cable;
-use text::parts::{MOST_CABLES, Run, Shape};
+use text::parts::{MOST_CABLES, MOST_PACKETS, Packet, Run, Shape, SwitchKind};
 
 mod methods;
 

@@ -5,10 +5,13 @@ use Rattle.std.proofs.lemmas.Fmt.{decimal_injective}
 use Rattle.std.proofs.lemmas.Str.Parse.{digit_at}
 use Rattle.std.proofs.ByRecursion.{All-append, All-from_get_or}
 use Rattle.text.specs.Texts.{Field, word, number, shown, Fits, Free, row, parted}
-use Rattle.text.specs.Lines.{shape_line, run_line, cables_line, cable_line, Uncabled}
+use Rattle.text.specs.Lines.{shape_line, kind_word, kind_line, run_line, cables_line, cable_line, Uncabled, packets_line, payload, packet_line}
 use Rattle.text.specs.declared.parts.Shape.{Shape}
 use Rattle.text.specs.declared.parts.Shape.TheVariants.{Mesh, Cabled}
+use Rattle.text.specs.declared.parts.SwitchKind.{SwitchKind}
+use Rattle.text.specs.declared.parts.SwitchKind.TheVariants.{Chipper, Bless}
 use Rattle.text.specs.declared.parts.Run.{Run}
+use Rattle.text.specs.declared.parts.Packet.{Packet}
 use Rattle.fabric.specs.Ports.{letter}
 use Rattle.fabric.specs.declared.parts.Cable.{Cable}
 use Rattle.fabric.specs.declared.parts.Port.{Port}
@@ -56,6 +59,13 @@ pub tidy_shape : (x : Shape) → AllByRecursion Fits (shape_line x) → Tidy (sh
 tidy_shape (Mesh w h) f = tidy _ _ f ((omega arith, omega arith), (tt, (tt, tt)))
 tidy_shape (Cabled n) f = tidy _ _ f ((omega arith, omega arith), (tt, tt))
 
+kind_plain : (x : SwitchKind) → Plain (word (kind_word x))
+kind_plain Chipper = (omega arith, omega arith)
+kind_plain Bless = (omega arith, omega arith)
+
+pub tidy_kind : (x : SwitchKind) → AllByRecursion Fits (kind_line x) → Tidy (kind_line x)
+tidy_kind x f = tidy _ _ f ((omega arith, omega arith), (kind_plain x, tt))
+
 pub tidy_run : (x : Run) → AllByRecursion Fits (run_line x) → Tidy (run_line x)
 tidy_run x f = tidy _ _ f ((omega arith, omega arith), (tt, (tt, (tt, (tt, (tt, tt))))))
 
@@ -70,6 +80,16 @@ letter_plain W = (omega arith, omega arith)
 
 pub tidy_cable : (x : Cable) → AllByRecursion Fits (cable_line x) → Tidy (cable_line x)
 tidy_cable x f = tidy _ _ f (tt, (letter_plain x.one.port, (tt, (letter_plain x.other.port, tt))))
+
+pub tidy_packets : (n : ℕ) → AllByRecursion Fits (packets_line n) → Tidy (packets_line n)
+tidy_packets n f = tidy _ _ f ((omega arith, omega arith), (tt, tt))
+
+numbers_plain : (ns : List ℕ) → AllByRecursion Plain (map number ns)
+numbers_plain [] = tt
+numbers_plain (n ∷ ns) = (tt, numbers_plain ns)
+
+pub tidy_packet : (x : Packet) → AllByRecursion Fits (packet_line x) → Tidy (packet_line x)
+tidy_packet x f = tidy _ _ f (tt, (tt, (tt, (tt, (tt, numbers_plain (payload x))))))
 
 pub tidy_all : {X : Type 0} (line : X → List Field) → ((x : X) → AllByRecursion Fits (line x) → Tidy (line x)) → (xs : List X) → AllByRecursion (AllByRecursion Fits) (map line xs) → AllByRecursion Tidy (map line xs)
 tidy_all line t [] h = tt
@@ -90,7 +110,14 @@ same_number w m n h k t u e = decimal_injective m n (omega arith) (omega arith) 
 pub same_cables : (m n : ℕ) → AllByRecursion Fits (cables_line m) → AllByRecursion Fits (cables_line n) → row (cables_line m) ≡ row (cables_line n) → m ≡ n
 same_cables m n h k e = same_number _ m n h.1.0 k.1.0 (tidy_cables m h) (tidy_cables n k) e
 
--- and so can the kind of a layout
+pub same_packets : (m n : ℕ) → AllByRecursion Fits (packets_line m) → AllByRecursion Fits (packets_line n) → row (packets_line m) ≡ row (packets_line n) → m ≡ n
+same_packets m n h k e = same_number _ m n h.1.0 k.1.0 (tidy_packets m h) (tidy_packets n k) e
+
+-- and so can a packet's cycle
+pub same_cycle : (x y : Packet) → AllByRecursion Fits (packet_line x) → AllByRecursion Fits (packet_line y) → row (packet_line x) ≡ row (packet_line y) → x.cycle ≡ y.cycle
+same_cycle x y h k e = decimal_injective x.cycle y.cycle (omega (arith, h.0)) (omega (arith, k.0)) (ap (λ ws. get_or ws 0 []) (same_words (packet_line x) (packet_line y) (tidy_packet x h) (tidy_packet y k) e))
+
+-- and the kind of a layout
 pub same_uncabled : (x y : Shape) (n : ℕ) → AllByRecursion Fits (shape_line x) → AllByRecursion Fits (shape_line y) → row (shape_line x) ≡ row (shape_line y) → Uncabled y n → Uncabled x n
 same_uncabled (Mesh w h) (Mesh v i) n f g e u = u
 same_uncabled (Mesh w h) (Cabled m) n f g e u = absurd (mesh_apart _ _ (same_words (shape_line (Mesh w h)) (shape_line (Cabled m)) (tidy_shape (Mesh w h) f) (tidy_shape (Cabled m) g) e))

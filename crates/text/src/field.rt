@@ -4,7 +4,7 @@ ghost use Rattle.std.specs.List.{position};
 ghost use Rattle.text.specs.Faults.{told, ill_formed, too_many};
 ghost use Rattle.text.specs.Texts.{parted, Any};
 ghost use Rattle.text.specs.Fields.{words, Begins};
-ghost use Rattle.text.specs.Lines.{fixed_field, number_field, port_field};
+ghost use Rattle.text.specs.Lines.{number_field, port_field};
 
 use super::fault::Fault;
 use super::number::number;
@@ -51,17 +51,6 @@ impl<'a> Fields<'a> {
         let end = find(rest, b' ').unwrap_or(rest.len());
         self.rest = rest.get(end + 1..);
         Ok(&rest[..end])
-    }
-
-    // The next field, which has to be this word.
-    pub fn expect(&mut self, fixed: &[u8]) -> Result<(), Fault>
-        ensures { Begins (fixed_field fixed.now) Any self.old self.new result }
-    {
-        let word = self.word()?;
-        if !is(word, fixed) {
-            return Err(self.fault());
-        }
-        Ok(())
     }
 
     // The next field, a number.

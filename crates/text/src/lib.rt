@@ -1,4 +1,4 @@
-// Texts in lines of fields: their fields, numbers and faults, and the lines that more than one kind of text has.
+// Texts in lines of fields: their fields, numbers and faults, and what each kind of line of a run sheet says.
 #![tactic(auto)]
 
 pub mod fault;

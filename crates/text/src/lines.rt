@@ -1,5 +1,5 @@
 // The lines of a text, one after another.
-ghost use Rattle.std.specs.Prelude.{◌≡◌, ◌+◌, ◌<◌, ◌≤◌, [], length, Decides, MatchResult, ◌≢◌};
+ghost use Rattle.std.specs.Prelude.{◌≡◌, ◌+◌, ◌<◌, ◌≤◌, [], length, Decides, MatchResult};
 ghost use Rattle.text.specs.Faults.{told, too_long, ill_formed};
 ghost use Rattle.text.specs.Texts.{Free, Lined};
 ghost use Rattle.text.specs.Fields.{words};
@@ -53,15 +53,5 @@ impl<'a> Lines<'a> {
         ensures { told result ≡ ill_formed (self.now.read + 1) }
     {
         Fault::ill_formed(self.read + 1)
-    }
-
-    // No line is left.
-    pub fn end(&self) -> Result<(), Fault>
-        ensures { MatchResult result (λ _. self.now.rest.now ≡ []) (λ f. (told f ≡ ill_formed (self.now.read + 1)) × (self.now.rest.now ≢ [])) }
-    {
-        if !self.is_empty() {
-            return Err(self.fault());
-        }
-        Ok(())
     }
 }

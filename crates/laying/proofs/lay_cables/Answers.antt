@@ -6,13 +6,13 @@ use Rattle.laying.proofs.Laying.{as_plans, named_below}
 use Rattle.laying.proofs.lay_cables.Goals as goal
 
 pub line_of-requires : goal.line_of-requires
-line_of-requires o c = named_below c.in-Err.ensures
+line_of-requires c = named_below c.in-Err.ensures
 
 pub returns-in-Ok : goal.returns-in-Ok
-returns-in-Ok o c = (_, _, as_plans _ c.new-layout.ensures.plan c.in-Ok.ensures, refl)
+returns-in-Ok c = (_, _, as_plans _ c.new-layout.ensures.plan c.in-Ok.ensures, refl)
 
 pub returns-in-Err : goal.returns-in-Err
-returns-in-Err o c = (
+returns-in-Err c = (
   _,
   _,
   as_plans _ c.new-layout.ensures.plan c.in-Err.ensures,

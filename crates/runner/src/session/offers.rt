@@ -8,8 +8,8 @@ use super::Session;
 use crate::planned::Planned;
 use fabric::layout::Layout;
 use fabric::refusal::Refusal;
-use runsheet::parts::Packet;
 use switch::switch::Switch;
+use text::parts::Packet;
 use writer::Writer;
 
 impl<L: Layout, S: Switch> Session<L, S> {

@@ -4,10 +4,9 @@ ghost use Rattle.batch.specs.Items.{items};
 ghost use Rattle.runsheet.specs.Said.{said};
 
 use super::Sheet;
-use crate::parts::{MOST_PACKETS, Packet, SwitchKind};
 use batch::Batch;
 use fabric::parts::Cable;
-use text::parts::{MOST_CABLES, Run, Shape};
+use text::parts::{MOST_CABLES, MOST_PACKETS, Packet, Run, Shape, SwitchKind};
 
 impl Sheet {
     pub(crate) fn new(

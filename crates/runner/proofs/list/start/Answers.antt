@@ -5,7 +5,7 @@ use Rattle.fabric.specs.Verdicts.Verdict.{granted}
 use Rattle.bounds.specs.SetUp.{set_up_verdict}
 use Rattle.network.specs.Cycle.{Fabric}
 use Rattle.calls.specs.Follow.{Begins}
-use Rattle.runsheet.specs.declared.parts.Packet.{Packet}
+use Rattle.text.specs.declared.parts.Packet.{Packet}
 use Rattle.runsheet.specs.Said.{said}
 use Rattle.runner.specs.Answering.{made_of, Ran}
 use Rattle.runner.specs.Tallies.{Tallied}

@@ -2,7 +2,7 @@ use Rattle.std.proofs.Common.{◌≡◌, ◌++◌, map, length, take}
 use Rattle.std.specs.List.{AllByRecursion}
 use Rattle.text.specs.Texts.{Fits, number, shown}
 use Rattle.text.specs.Fields.{words}
-use Rattle.runsheet.proofs.rows.payload.Given as goal
+use Rattle.text.proofs.rows.payload.Given as goal
 
 abbrev pub invariant-loop-i : goal.invariant-loop-i
 invariant-loop-i l =

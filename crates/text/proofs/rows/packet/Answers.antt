@@ -3,10 +3,10 @@ use Rattle.std.specs.List.{AllByRecursion}
 use Rattle.std.proofs.lemmas.Result.{err_from_is_err_and}
 use Rattle.text.specs.Faults.{ill_formed}
 use Rattle.text.specs.Texts.{Fits, number}
-use Rattle.runsheet.specs.Sheets.{payload, packet_line, Sized}
+use Rattle.text.specs.Lines.{payload, packet_line, Sized}
 use Rattle.text.proofs.Exits.{passed, after}
-use Rattle.runsheet.proofs.Payload.{figures, figures_only, figures_end, same_front}
-use Rattle.runsheet.proofs.rows.packet.Goals as goal
+use Rattle.text.proofs.Payload.{figures, figures_only, figures_end, same_front}
+use Rattle.text.proofs.rows.packet.Goals as goal
 
 pub returns-in_err-node : goal.returns-in_err-node
 returns-in_err-node c =

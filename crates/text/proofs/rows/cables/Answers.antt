@@ -3,7 +3,7 @@ use Rattle.std.proofs.lemmas.Fmt.{decimal_injective}
 use Rattle.text.specs.Faults.{ill_formed}
 use Rattle.text.specs.Lines.{Uncabled}
 use Rattle.text.proofs.Exits.{rest_of, first_of}
-use Rattle.runsheet.proofs.rows.cables.Goals as goal
+use Rattle.text.proofs.rows.cables.Goals as goal
 
 pub returns-in-Mesh : goal.returns-in-Mesh
 returns-in-Mesh c =

@@ -3,8 +3,8 @@ use Rattle.std.proofs.lemmas.Result.{err_from_is_err_and}
 use Rattle.text.specs.Faults.{ill_formed}
 use Rattle.text.specs.Texts.{number}
 use Rattle.text.proofs.Exits.{opened}
-use Rattle.runsheet.proofs.Payload.{figures, figures_next, fits_at}
-use Rattle.runsheet.proofs.rows.payload.Goals as goal
+use Rattle.text.proofs.Payload.{figures, figures_next, fits_at}
+use Rattle.text.proofs.rows.payload.Goals as goal
 
 pub returns-in_err-words : goal.returns-in_err-words
 returns-in_err-words c =

@@ -5,8 +5,8 @@ use Rattle.std.proofs.lemmas.List.{append-nil, length-append, length-map, length
 use Rattle.std.proofs.ByRecursion.{All-get_or}
 use Rattle.std.proofs.lemmas.Fmt.{decimal_injective}
 use Rattle.text.specs.Texts.{Fits, number, shown}
-use Rattle.runsheet.specs.Sheets.{packet_line}
-use Rattle.runsheet.specs.declared.parts.Packet.{Packet}
+use Rattle.text.specs.Lines.{packet_line}
+use Rattle.text.specs.declared.parts.Packet.{Packet}
 use Rattle.text.proofs.Exits.{after, first_of}
 
 -- the numbers as words

@@ -1,4 +1,0 @@
-mod Apart
-mod Asking
-mod Going
-mod Wiring
