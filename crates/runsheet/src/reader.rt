@@ -109,23 +109,23 @@ impl Reader {
     fn entry(&self, line: &Fields) -> Result<Entry, Fault>
         ensures { Judges (draft self.now) line.now.line (words line.now) result }
     {
-        let (mut whole, mut fields) = (*line, *line);
+        let mut fields = *line;
         let word = fields.word()?;
         match (self.section, word) {
-            (Section::Layout, w) if is(w, b"mesh") => rows::mesh(&mut fields).map(Entry::Shape),
+            (Section::Layout, w) if is(w, b"mesh") => rows::mesh(fields).map(Entry::Shape),
             (Section::Layout, w) if is(w, b"cabled") => {
-                rows::cabled(&mut fields).map(Entry::Shape)
+                rows::cabled(fields).map(Entry::Shape)
             }
-            (Section::Switch, w) if is(w, b"switch") => rows::switch(&mut fields).map(Entry::Kind),
-            (Section::Run, w) if is(w, b"run") => rows::run(&mut fields).map(Entry::Run),
+            (Section::Switch, w) if is(w, b"switch") => rows::switch(fields).map(Entry::Kind),
+            (Section::Run, w) if is(w, b"run") => rows::run(fields).map(Entry::Run),
             (Section::Cables, w) if is(w, b"cables") => {
-                rows::cables(&mut fields, self.shape).map(Entry::Cables)
+                rows::cables(fields, self.shape).map(Entry::Cables)
             }
-            (Section::Cable, _) => rows::cable(&mut whole).map(Entry::Cable),
+            (Section::Cable, _) => rows::cable(*line).map(Entry::Cable),
             (Section::Packets, w) if is(w, b"packets") => {
-                rows::count(&mut fields).map(Entry::Packets)
+                rows::count(fields).map(Entry::Packets)
             }
-            (Section::Packet, _) => rows::packet(&mut whole, self.last).map(Entry::Packet),
+            (Section::Packet, _) => rows::packet(*line, self.last).map(Entry::Packet),
             _ => Err(line.fault()),
         }
     }

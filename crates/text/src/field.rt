@@ -44,7 +44,7 @@ impl<'a> Fields<'a> {
 
     // The next field.
     pub fn word(&mut self) -> Result<&'a [u8], Fault>
-        ensures words { MatchResult result (λ w. words self.old ≡ w.now ∷ words self.new) (λ f. (told f ≡ ill_formed self.old.line) × (words self.old ≡ [])) }
+        ensures words { MatchResult result (λ w. words self.old ≡ w.now ∷ words self.new) (λ f. (told f ≡ ill_formed self.old.line) × (words self.old ≡ []) × (self.new ≡ self.old)) }
         ensures line { self.new.line ≡ self.old.line }
     {
         let rest = self.rest.ok_or(self.fault())?;
@@ -54,7 +54,7 @@ impl<'a> Fields<'a> {
     }
 
     // The next field, a number.
-    pub fn number(&mut self) -> Result<u32, Fault>
+    pub(crate) fn number(&mut self) -> Result<u32, Fault>
         ensures { Begins number_field Any self.old self.new result }
     {
         let word = self.word()?;
@@ -62,7 +62,7 @@ impl<'a> Fields<'a> {
     }
 
     // The next field, a port's letter. Compared with fixed byte strings, a form of the project.
-    pub fn port(&mut self) -> Result<Port, Fault>
+    pub(crate) fn port(&mut self) -> Result<Port, Fault>
         ensures { Begins port_field Any self.old self.new result }
     {
         match self.word()? {
@@ -89,7 +89,7 @@ impl<'a> Fields<'a> {
     }
 
     // No field is left.
-    pub fn end(&self) -> Result<(), Fault>
+    pub(crate) fn end(&self) -> Result<(), Fault>
         ensures { MatchResult result (λ _. words self.now ≡ []) (λ f. (told f ≡ ill_formed self.now.line) × (words self.now ≢ [])) }
     {
         if self.rest.is_some() {

@@ -33,7 +33,7 @@ impl<'a> Lines<'a> {
 
     // The fields of the next line, if it has its end.
     pub fn next_line(&mut self) -> Result<Fields<'a>, Fault>
-        ensures { MatchResult result (λ x. Lined self.old.rest.now (words x) self.new.rest.now × (x.line ≡ self.old.read + 1) × (self.new.read ≡ self.old.read + 1)) (λ f. (told f ≡ ill_formed (self.old.read + 1)) × Free 10 self.old.rest.now) }
+        ensures { MatchResult result (λ x. Lined self.old.rest.now (words x) self.new.rest.now × (x.line ≡ self.old.read + 1) × (self.new.read ≡ self.old.read + 1)) (λ f. (told f ≡ ill_formed (self.old.read + 1)) × Free 10 self.old.rest.now × (self.new ≡ self.old)) }
     {
         let rest = self.rest;
         let end = find(rest, b'\n').ok_or(self.fault())?;

@@ -13,8 +13,8 @@ const MOST_CYCLES: u32 = 65535;
 
 const MOST_WORDS: u32 = 4;
 
-pub fn mesh(fields: &mut Fields) -> Result<Shape, Fault>
-    ensures { Reads shape_line Any (codes "mesh" ∷ words fields.old) fields.old.line result }
+pub fn mesh(mut fields: Fields) -> Result<Shape, Fault>
+    ensures { Reads shape_line Any (codes "mesh" ∷ words fields.entry) fields.entry.line result }
 {
     let width = fields.number()?;
     let height = fields.number()?;
@@ -22,8 +22,8 @@ pub fn mesh(fields: &mut Fields) -> Result<Shape, Fault>
     Ok(Shape::Mesh { width, height })
 }
 
-pub fn cabled(fields: &mut Fields) -> Result<Shape, Fault>
-    ensures { Reads shape_line Any (codes "cabled" ∷ words fields.old) fields.old.line result }
+pub fn cabled(mut fields: Fields) -> Result<Shape, Fault>
+    ensures { Reads shape_line Any (codes "cabled" ∷ words fields.entry) fields.entry.line result }
 {
     let nodes = fields.number()?;
     fields.end()?;
@@ -41,16 +41,16 @@ fn kind(fields: &mut Fields) -> Result<SwitchKind, Fault>
     }
 }
 
-pub fn switch(fields: &mut Fields) -> Result<SwitchKind, Fault>
-    ensures { Reads kind_line Any (codes "switch" ∷ words fields.old) fields.old.line result }
+pub fn switch(mut fields: Fields) -> Result<SwitchKind, Fault>
+    ensures { Reads kind_line Any (codes "switch" ∷ words fields.entry) fields.entry.line result }
 {
-    let kind = kind(fields)?;
+    let kind = kind(&mut fields)?;
     fields.end()?;
     Ok(kind)
 }
 
-pub fn run(fields: &mut Fields) -> Result<Run, Fault>
-    ensures { Reads run_line Brief (codes "run" ∷ words fields.old) fields.old.line result }
+pub fn run(mut fields: Fields) -> Result<Run, Fault>
+    ensures { Reads run_line Brief (codes "run" ∷ words fields.entry) fields.entry.line result }
 {
     let tickets = fields.number()?;
     let words = fields.number()?;
@@ -71,9 +71,8 @@ pub fn run(fields: &mut Fields) -> Result<Run, Fault>
 }
 
 // The count that a list begins with.
-pub fn count(fields: &mut Fields) -> Result<usize, Fault>
-    ensures words { Reads (λ n. number n ∷ []) Any (words fields.old) fields.old.line result }
-    ensures line { fields.new.line ≡ fields.old.line }
+pub fn count(mut fields: Fields) -> Result<usize, Fault>
+    ensures { Reads (λ n. number n ∷ []) Any (words fields.entry) fields.entry.line result }
 {
     let count = fields.number()? as usize;
     fields.end()?;
@@ -81,8 +80,8 @@ pub fn count(fields: &mut Fields) -> Result<usize, Fault>
 }
 
 // A mesh has no cables.
-pub fn cables(fields: &mut Fields, shape: Shape) -> Result<usize, Fault>
-    ensures { Reads cables_line (Uncabled shape) (codes "cables" ∷ words fields.old) fields.old.line result }
+pub fn cables(fields: Fields, shape: Shape) -> Result<usize, Fault>
+    ensures { Reads cables_line (Uncabled shape) (codes "cables" ∷ words fields.entry) fields.entry.line result }
 {
     let count = count(fields)?;
     match shape {
@@ -100,11 +99,11 @@ fn slot(fields: &mut Fields) -> Result<Slot, Fault>
     Ok(Slot { node, port })
 }
 
-pub fn cable(fields: &mut Fields) -> Result<Cable, Fault>
-    ensures { Reads cable_line Any (words fields.old) fields.old.line result }
+pub fn cable(mut fields: Fields) -> Result<Cable, Fault>
+    ensures { Reads cable_line Any (words fields.entry) fields.entry.line result }
 {
-    let one = slot(fields)?;
-    let other = slot(fields)?;
+    let one = slot(&mut fields)?;
+    let other = slot(&mut fields)?;
     fields.end()?;
     Ok(Cable { one, other })
 }
@@ -123,8 +122,8 @@ fn payload(fields: &mut Fields, count: usize) -> Result<[u32; 4], Fault>
 }
 
 // A packet that is not due before cycle `last`.
-pub fn packet(fields: &mut Fields, last: u32) -> Result<Packet, Fault>
-    ensures { Reads packet_line (λ p. Sized p × (last ≤ p.cycle)) (words fields.old) fields.old.line result }
+pub fn packet(mut fields: Fields, last: u32) -> Result<Packet, Fault>
+    ensures { Reads packet_line (λ p. Sized p × (last ≤ p.cycle)) (words fields.entry) fields.entry.line result }
 {
     let cycle = fields.number()?;
     let node = fields.number()?;
@@ -134,7 +133,7 @@ pub fn packet(fields: &mut Fields, last: u32) -> Result<Packet, Fault>
     if cycle < last || count < 1 || count > MOST_WORDS {
         return Err(fields.fault());
     }
-    let words = payload(fields, count as usize)?;
+    let words = payload(&mut fields, count as usize)?;
     fields.end()?;
     Ok(Packet {
         cycle,
