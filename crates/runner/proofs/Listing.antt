@@ -1,6 +1,7 @@
 -- From what the parts of a sheet are answered to its listing.
-use Rattle.std.proofs.Common.{◌≡◌, ℕ, ◌≤◌, List, [], ◌++◌, length, drop, Ok, Err, Result, sym, refl, ap, ◌∙◌, subst, inl, inr, arith}
-use Rattle.std.proofs.lemmas.List.{take-append-drop}
+use Rattle.std.proofs.Common.{◌≡◌, ℕ, ◌<◌, ◌≤◌, List, [], ◌∷◌, ◌++◌, length, drop, Ok, Err, Result, sym, refl, ap, ◌∙◌, subst, inl, inr, arith}
+use Rattle.std.specs.List.{flat_map}
+use Rattle.std.proofs.lemmas.List.{length-append, take-append-drop}
 use Rattle.fabric.specs.declared.refusal.Refusal.{Refusal}
 use Rattle.fabric.specs.Layouts.{Plan}
 use Rattle.fabric.specs.Refusals.{shown}
@@ -9,15 +10,15 @@ use Rattle.fabric.specs.Verdicts.Verdict.{granted}
 use Rattle.text.specs.declared.fault.Fault.{Fault}
 use Rattle.text.specs.declared.fault.Layer.{Layer}
 use Rattle.text.specs.declared.fault.Layer.TheVariants.{Network}
-use Rattle.text.specs.Faults.{told}
+use Rattle.text.specs.Faults.{told, fault_fields}
 use Rattle.runsheet.specs.Said.{Said}
 use Rattle.runsheet.specs.Sheets.{SheetText}
-use Rattle.text.specs.Texts.{written}
+use Rattle.text.specs.Texts.{Field, row, written}
 use Rattle.laying.specs.Reports.Report.{answers, faults}
 use Rattle.laying.specs.Reports.{by_layer}
 use Rattle.laying.specs.Layings.{Laid, Judged}
 use Rattle.writer.specs.declared.writer.Writer.{Writer}
-use Rattle.writer.specs.Listings.{listed, beyond, Appends, LineOut, fault_fields}
+use Rattle.writer.specs.Listings.{listed, beyond, Appends, LineOut}
 use Rattle.writer.proofs.Outcomes.{with_room}
 use Rattle.runner.specs.Answering.{network_of, Listing, WrittenOut, Blank, Holds, Ended, Faulted, Carried}
 use Rattle.runner.specs.Answering.WrittenOut.{listing}
@@ -42,6 +43,19 @@ of_fault : (text : List ℕ) (f : Fault) → Faulted text f → Listing text (wr
 of_fault text f (inl (s, read, judged)) = inl (s, read, (faults (told f), judged, refl))
 of_fault text f (inr h) = inr (f, h, refl)
 
+-- no listing is empty
+written_some : (l : List Field) → 0 < length (written l)
+written_some l = omega (arith, length-append (row l) (10 ∷ []))
+
+text_some : (ls : List (List Field)) (l : List Field) → 0 < length (flat_map written (ls ++ l ∷ []))
+text_some [] l = let h = written_some l in omega (arith, length-append (written l) [])
+text_some (x ∷ ls) l = let h = written_some x in omega (arith, length-append (written x) (flat_map written (ls ++ l ∷ [])))
+
+not_empty : (text bs : List ℕ) → Listing text bs → 0 < length bs
+not_empty text bs (inl (s, read, (answers p, judged, lists))) = subst (λ (x : List ℕ). 0 < length x) (sym lists.bytes) (text_some lists.lines _)
+not_empty text bs (inl (s, read, (faults x, judged, e))) = subst (λ (y : List ℕ). 0 < length y) (sym e) (written_some (fault_fields x))
+not_empty text bs (inr (f, h, e)) = subst (λ (y : List ℕ). 0 < length y) (sym e) (written_some (fault_fields (told f)))
+
 -- the memory of a writer
 memory_of : (v : Writer) → v.memory.now ≡ listed v ++ beyond v
 memory_of v = sym (take-append-drop v.len v.memory.now)
@@ -57,7 +71,7 @@ module _ (text memory : List ℕ) (w : Writer) (none : listed w ≡ []) (all : b
       let now : v.memory.now ≡ bs ++ drop (length bs) memory =
       memory_of v ∙ ap (λ x. x ++ beyond v) h.written ∙ ap (λ x. bs ++ x) (h.rest ∙ ap (drop (length bs)) all) in
       subst (λ (m : List ℕ). WrittenOut text memory (granted n) m) (sym now)
-      (subst (λ (k : ℕ). WrittenOut text memory (granted k) (bs ++ drop (length bs) memory)) (sym at) (listing long l h.few))
+      (subst (λ (k : ℕ). WrittenOut text memory (granted k) (bs ++ drop (length bs) memory)) (sym at) (listing long l (not_empty text bs l) h.few))
 
   pub ran_through : (v : Writer) (n : ℕ) → Carried text w v (Ok tt) → n ≡ length (listed v) → WrittenOut text memory (granted n) v.memory.now
   ran_through v n (s, read, (p, judged, (bs, lists, h))) e = out bs n (inl (s, read, (answers p, judged, lists))) h e

@@ -11,7 +11,7 @@ use Rattle.network.specs.Cycle.{Fabric}
 use Rattle.text.specs.declared.fault.Fault.{Fault}
 use Rattle.text.specs.declared.parts.SwitchKind.{SwitchKind}
 use Rattle.text.specs.declared.parts.SwitchKind.TheVariants.{Chipper, Bless}
-use Rattle.text.specs.Faults.{told}
+use Rattle.text.specs.Faults.{told, fault_fields}
 use Rattle.runsheet.specs.declared.sheet.Sheet.{Sheet}
 use Rattle.runsheet.specs.Said.{Said, said}
 use Rattle.runsheet.specs.Sheets.{SheetText, Refused, Formed}
@@ -20,7 +20,7 @@ use Rattle.laying.specs.Reports.{Report}
 use Rattle.laying.specs.Reports.Report.{answers, faults}
 use Rattle.laying.specs.Layings.{settings_of, settled, Judged}
 use Rattle.writer.specs.declared.writer.Writer.{Writer}
-use Rattle.writer.specs.Listings.{listed, beyond, fault_fields}
+use Rattle.writer.specs.Listings.{listed, beyond}
 use Rattle.runner.specs.Listing.{Lists}
 
 abbrev pub turn_of : SwitchKind → Handing → Turn
@@ -46,10 +46,10 @@ Listing text bs =
     ((s : Said) × SheetText text s × ((r : Report Plan) × Judged s.shape s.cables s.run r × ListsSheet s r bs))
     ⊎ ((f : Fault) × Refused text f × (bs ≡ written (fault_fields (told f))))
 
--- the listing is written at the start of a memory of 65,536 bytes or more, which it never fills, and the rest of the memory stays;
+-- the listing is written at the start of a memory of 65,536 bytes or more, which suffice for each, and the rest of the memory stays; none is empty;
 -- a shorter memory is refused by 9, and stays
 pub data WrittenOut (text memory : List ℕ) : Verdict ℕ → List ℕ → Type 0 where
-  listing : {bs : List ℕ} → 65536 ≤ length memory → Listing text bs → length bs ≤ 65536 → WrittenOut text memory (granted (length bs)) (bs ++ drop (length bs) memory)
+  listing : {bs : List ℕ} → 65536 ≤ length memory → Listing text bs → 0 < length bs → length bs ≤ 65536 → WrittenOut text memory (granted (length bs)) (bs ++ drop (length bs) memory)
   short : length memory < 65536 → WrittenOut text memory (refused 9 []) memory
 
 -- Between the call and the run.

@@ -1,7 +1,7 @@
 -- The faults of a text, and where a text stops being that of a document.
-use Rattle.std.specs.Prelude.{◌≡◌, ℕ, ◌+◌, ◌<◌, ◌≤◌, ◌⊎◌, List, [], ◌∷◌, ◌++◌, length, take, codes, decimal}
+use Rattle.std.specs.Prelude.{◌≡◌, ℕ, ◌+◌, ◌<◌, ◌≤◌, ◌⊎◌, List, [], ◌∷◌, ◌++◌, length, take, codes}
 use Rattle.fabric.specs.Refusals.{number}
-use Rattle.text.specs.Texts.{Field, text}
+use Rattle.text.specs.Texts.{Field, word, number as numeral, text}
 use Rattle.text.specs.declared.fault.Fault.{Fault}
 use Rattle.text.specs.declared.fault.Layer.{Layer}
 use Rattle.text.specs.declared.fault.Layer.TheVariants.{Sheet, Layout, Network}
@@ -24,9 +24,9 @@ layer_word Sheet = codes "sheet"
 layer_word Layout = codes "layout"
 layer_word Network = codes "network"
 
--- the fault's line, without its end
-abbrev pub fault_line : Fault → List ℕ
-fault_line f = codes "fault " ++ (layer_word f.layer ++ (32 ∷ (decimal (number f.refusal) ++ (32 ∷ decimal f.line))))
+-- what a fault tells, as the fields of a line
+abbrev pub fault_fields : ℕ × Layer × ℕ → List Field
+fault_fields x = word (codes "fault") ∷ word (layer_word x.1) ∷ numeral x.0 ∷ numeral x.2 ∷ []
 
 -- Of documents of a kind D, each of which has its lines:
 -- the bytes begin with the document's first k lines, and end with the document where it has fewer

@@ -1,6 +1,7 @@
 // A fault of a text: why it is refused, by which layer, and at which line, counted from 1 (0 where no line is named).
 ghost use Rattle.std.specs.Prelude.{◌≡◌, Some};
-ghost use Rattle.text.specs.Faults.{told, too_long, ill_formed, too_many, layer_word, fault_line};
+ghost use Rattle.text.specs.Faults.{told, too_long, ill_formed, too_many, layer_word, fault_fields};
+ghost use Rattle.text.specs.Texts.{row};
 
 use fabric::refusal::Refusal;
 use std::fmt;
@@ -69,7 +70,7 @@ impl Fault {
 
 // The fault's line, without its end.
 impl fmt::Display for Fault {
-    ghost output = { λ x. Some (fault_line x) };
+    ghost output = { λ x. Some (row (fault_fields (told x))) };
 
     fn fmt<W: fmt::Write>(&self, f: &mut fmt::Formatter<W>) -> fmt::Result {
         let layer = self.layer;

@@ -8,9 +8,9 @@ use Rattle.std.proofs.lemmas.List.{append-nil, length-append, length_push, drop-
 use Rattle.fabric.specs.declared.refusal.Refusal.{Refusal}
 use Rattle.fabric.specs.declared.refusal.Refusal.TheVariants.{Memory}
 use Rattle.text.specs.Texts.{Field, word, number, shown, row, written}
-use Rattle.text.specs.Faults.{layer_word}
+use Rattle.text.specs.Faults.{layer_word, fault_fields}
 use Rattle.text.specs.declared.fault.Layer.{Layer}
-use Rattle.writer.specs.Listings.{listed, beyond, Appends, mean_word, fault_fields}
+use Rattle.writer.specs.Listings.{listed, beyond, Appends, mean_word}
 use Rattle.writer.specs.Steps.{Puts, figures, spread, Leaves}
 use Rattle.writer.specs.declared.writer.Writer.{Writer}
 

@@ -3,8 +3,6 @@ use Rattle.std.specs.Prelude.{◌≡◌, ℕ, ◌/◌, ◌%◌, ◌<◌, ◌≤�
 use Rattle.fabric.specs.Verdicts.{Verdict}
 use Rattle.fabric.specs.Verdicts.Verdict.{granted, refused}
 use Rattle.text.specs.Texts.{Field, word, number, written}
-use Rattle.text.specs.Faults.{layer_word}
-use Rattle.text.specs.declared.fault.Layer.{Layer}
 use Rattle.writer.specs.declared.writer.Writer.{Writer}
 
 -- a line that begins with its cycle and a word, and goes on in numbers
@@ -31,10 +29,6 @@ mean_word (Some t) = decimal (t / 10) ++ codes "." ++ decimal (t % 10)
 -- flits entered, flits taken off, and their mean
 abbrev pub end_line : ℕ → ℕ → Option ℕ → List Field
 end_line a b m = word (codes "end") ∷ number a ∷ number b ∷ word (mean_word m) ∷ []
-
--- what a fault tells, its number, layer and line, as a line of the listing
-abbrev pub fault_fields : ℕ × Layer × ℕ → List Field
-fault_fields x = word (codes "fault") ∷ word (layer_word x.1) ∷ number x.0 ∷ number x.2 ∷ []
 
 -- what is written, and the memory beyond it
 abbrev pub listed : Writer → List ℕ

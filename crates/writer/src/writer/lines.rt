@@ -1,9 +1,9 @@
 // The lines of a listing. A line that the memory has no room for is refused, and nothing of it is written.
 ghost use Rattle.std.specs.Prelude.{◌≡◌, ◌+◌, ◌≤◌, [], ◌∷◌, length};
 ghost use Rattle.fabric.specs.Refusals.{shown};
-ghost use Rattle.text.specs.Faults.{told};
+ghost use Rattle.text.specs.Faults.{told, fault_fields};
 ghost use Rattle.text.specs.Texts.{written};
-ghost use Rattle.writer.specs.Listings.{listed, beyond, SameLender, LineOut, stamped_line, event_line, no_line, done_line, mean_word, end_line, fault_fields};
+ghost use Rattle.writer.specs.Listings.{listed, beyond, SameLender, LineOut, stamped_line, event_line, no_line, done_line, mean_word, end_line};
 ghost use Rattle.writer.specs.Steps.{Puts};
 
 use super::Writer;
