@@ -34,7 +34,7 @@ as_plans plan {k} {cs} {x} e = go
     go (cabled f g h m) = cabled f g h m
 
 -- a slot's number
-abbrev slot_number : Slot → ℕ
+abbrev pub slot_number : Slot → ℕ
 slot_number s = s.node * 4 + rank s.port
 
 rank_below : (p : Port) → rank p < 4
@@ -43,7 +43,7 @@ rank_below E = omega arith
 rank_below S = omega arith
 rank_below W = omega arith
 
-same_port : (p q : Port) → rank p ≡ rank q → p ≡ q
+pub same_port : (p q : Port) → rank p ≡ rank q → p ≡ q
 same_port N N e = refl
 same_port N E e = absurd (omega arith)
 same_port N S e = absurd (omega arith)
@@ -61,7 +61,7 @@ same_port W E e = absurd (omega arith)
 same_port W S e = absurd (omega arith)
 same_port W W e = refl
 
-same_slot : (s t : Slot) → slot_number s ≡ slot_number t → s ≡ t
+pub same_slot : (s t : Slot) → slot_number s ≡ slot_number t → s ≡ t
 same_slot s t e =
     let a = rank_below s.port in
     let b = rank_below t.port in

@@ -1,7 +1,7 @@
 -- What the lines of a sheet are answered that name a layout and its settings: the layout stands at line 1, the run at line 3 and the count of cables at line 4.
 use Rattle.std.specs.Prelude.{◌≡◌, ℕ, ◌+◌, cond, List, ◌==◌, slice_index}
 use Rattle.fabric.specs.declared.parts.Cable.{Cable}
-use Rattle.fabric.specs.Layouts.{Plan}
+use Rattle.fabric.specs.Layouts.{Plan, Lawful}
 use Rattle.fabric.specs.Meshes.{mesh_verdict}
 use Rattle.fabric.specs.Verdicts.{Verdict, granting}
 use Rattle.cabled.specs.Cables.{Cabling, lone}
@@ -20,7 +20,7 @@ layout_line k named = cond (k == 13) (5 + slice_index named 0) (cond (k == 14) 4
 -- what the layout's lines are answered; which node a 14 names is free
 abbrev pub Laid : Shape → List Cable → Report Plan → Type 0
 Laid (Mesh w h) cs r = r ≡ by_layer Layout layout_line (mesh_verdict w h)
-Laid (Cabled n) cs r = (p : Plan) × (v : Verdict Unit) × Cabling (λ q. q) n cs lone p v × (r ≡ by_layer Layout layout_line (granting (λ _. p) v))
+Laid (Cabled n) cs r = (p : Plan) × Lawful p × (v : Verdict Unit) × Cabling (λ q. q) n cs lone p v × (r ≡ by_layer Layout layout_line (granting (λ _. p) v))
 
 abbrev pub settings_of : Run → Settings
 settings_of r = record { tickets = r.tickets; words = r.words; epoch = r.epoch; seed = r.seed }

@@ -1,19 +1,28 @@
 use Rattle.std.proofs.Common.{ℕ, refl, ap}
 use Rattle.fabric.specs.Refusals.{number}
+use Rattle.cabled.specs.declared.cabled.Cabled.{Cabled}
+use Rattle.cabled.specs.Laws.{lawful}
+use Rattle.cabled.specs.Plans.{plan_of}
+use Rattle.fabric.specs.Layouts.{Lawful}
 use Rattle.text.specs.declared.fault.Layer.TheVariants.{Layout}
 use Rattle.laying.specs.Reports.Report.{faults}
 use Rattle.laying.proofs.Laying.{as_plans, named_below}
 use Rattle.laying.proofs.lay_cables.Goals as goal
 
+-- the law of each
+law : (x : Cabled) → Lawful (plan_of x)
+law x = lawful x.wiring.nodes x.wiring.ends x.spans.distances x.spans.reach x.wiring.paired x.nearing (x.wiring.fair.0, x.wiring.fair.1, x.spans.near) x.within
+
 pub line_of-requires : goal.line_of-requires
 line_of-requires c = named_below c.in-Err.ensures
 
 pub returns-in-Ok : goal.returns-in-Ok
-returns-in-Ok c = (_, _, as_plans _ c.new-layout.ensures.plan c.in-Ok.ensures, refl)
+returns-in-Ok c = (_, law c.cable.new.self, _, as_plans _ c.new-layout.ensures.plan c.in-Ok.ensures, refl)
 
 pub returns-in-Err : goal.returns-in-Err
 returns-in-Err c = (
   _,
+  law c.cable.new.self,
   _,
   as_plans _ c.new-layout.ensures.plan c.in-Err.ensures,
   ap (λ (k : ℕ). faults (number c.in-Err.refusal, Layout, k)) c.line_of.ensures,
