@@ -2,7 +2,7 @@
 ghost use Rattle.std.specs.Prelude.{◌≡◌, ◌≤◌, [], ◌∷◌, map, length, take, codes};
 ghost use Rattle.text.specs.Fields.{words, Reads, Begins};
 ghost use Rattle.text.specs.Texts.{number, Any};
-ghost use Rattle.text.specs.Lines.{shape_line, kind_field, kind_line, run_line, Brief, cables_line, Uncabled, slot_fields, cable_line, packet_line, Sized};
+ghost use Rattle.text.specs.Lines.{shape_line, kind_field, kind_line, run_line, Brief, cables_line, Uncabled, slot_fields, cable_line, packet_line, Blank, Sized};
 
 use super::fault::Fault;
 use super::field::{Fields, is};
@@ -111,7 +111,7 @@ pub fn cable(mut fields: Fields) -> Result<Cable, Fault>
 // The words of a packet, `count` of them.
 fn payload(fields: &mut Fields, count: usize) -> Result<[u32; 4], Fault>
     requires { count ≤ 4 }
-    ensures { Begins (λ ns. map number (take count ns)) (λ ns. length ns ≡ 4) fields.old fields.new result }
+    ensures { Begins (λ ns. map number (take count ns)) (λ ns. (length ns ≡ 4) × Blank count ns) fields.old fields.new result }
 {
     let mut words = [0; 4];
     // By index: after a loop over `&mut words[..count]` a proof knows the length of `words`, and not what it holds.
