@@ -1,4 +1,4 @@
-//! A second model of the network of docs/MODEL.md, written from that page
+//! A second model of the network, written from docs/MODEL.md and docs/DECISIONS.md
 //! alone. It is made to be compared with the first, so it shares no code
 //! with it and takes the plainest way to each answer.
 

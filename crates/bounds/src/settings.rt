@@ -20,7 +20,7 @@ pub struct Settings {
     pub tickets: usize,
     // words that a packet may have
     pub words: usize,
-    // the epoch: for so many cycles one ticket is golden, and its flits win every contest
+    // the epoch (so called in the field too): for so many cycles one ticket is golden, and its flits go before all others
     pub epoch: usize,
     // what the draw register (an LFSR of 16 bits) begins with
     pub seed: usize,

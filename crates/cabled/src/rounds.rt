@@ -30,7 +30,7 @@ pub(crate) struct Spans {
     ghost near: { reach ≤ 63 },
 }
 
-// Each step asks that the node exists: a type for a node's number would be opened at each index.
+// Each step asks that the node exists: a type for a node's number would have to be unwrapped at each index.
 impl Wiring {
     // Whether the port leads to a node of this level.
     fn leads_to(&self, row: &Levels, node: usize, port: Port, level: u8) -> bool

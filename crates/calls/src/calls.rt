@@ -78,7 +78,7 @@ impl<L: Layout, S: Switch> Network<L, S> {
         (self.layout.nodes() * tickets + 1) * epoch
     }
 
-    // Hands a packet over to an own ticket of a node.
+    // Hands a packet to a node for sending, under one of its own tickets, which are numbered from 0.
     pub fn offer(
         &mut self,
         node: usize,

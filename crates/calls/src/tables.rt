@@ -9,7 +9,7 @@ use fabric::parts::Flit;
 mod methods;
 mod work;
 
-// A node and a ticket go by their numbers, as in a layout. Types of their own would be opened at each index: the steps ask `node < 64` instead.
+// Nodes and tickets are plain numbers, as in a layout: a type of their own would have to be unwrapped at each index. So the steps ask for `node < 64`.
 pub(crate) const NODES: usize = 64;
 
 pub(crate) const PORTS: usize = 4;

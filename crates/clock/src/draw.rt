@@ -1,4 +1,4 @@
-// The draw register.
+// The draw register (in the field: an LFSR), of which the switches have their draw bits.
 ghost use Rattle.std.specs.Prelude.{◌≡◌};
 ghost use Rattle.clock.specs.Draws.{shifted};
 

@@ -1,4 +1,4 @@
-// The golden ticket.
+// The golden ticket: for an epoch its flits go before all others (in the field: the Golden Packet).
 ghost use Rattle.std.specs.Prelude.{◌≡◌, ◌||◌, if◌then◌else◌, ◌==◌, nat_eq};
 ghost use Rattle.clock.specs.Epochs.{golden_ticket};
 

@@ -4,7 +4,7 @@ ghost use Rattle.fabric.specs.Layouts.{Plan, Lawful};
 
 use super::parts::{Port, Slot};
 
-// A layout answers each question from its plan, refuses nothing and changes nothing.
+// A layout answers each question from its plan, which is what it means; it refuses nothing and changes nothing.
 // Of a missing node it says distance 0, no wish, and as far end the place asked.
 pub trait Layout {
     ghost plan: { Self → Plan };
@@ -12,7 +12,7 @@ pub trait Layout {
     fn nodes(&self) -> usize
         ensures { result ≡ (plan self.now).nodes };
 
-    // The slot in which a flit that leaves the node by the port arrives.
+    // The far end of a port (in the field: the other end of its link): the slot in which a flit that leaves the node by it arrives.
     fn far_end(&self, node: usize, port: Port) -> Slot
         ensures { result ≡ (plan self.now).far node port };
 

@@ -4,7 +4,7 @@ ghost use Rattle.fabric.specs.Ports.{place_of, letter};
 
 use std::fmt;
 
-// A side of a node, by which flits arrive and leave. This is slot order.
+// A side of a node, by which flits arrive and leave. The order N, E, S, W is slot order: the four places of a node are numbered by it, from 0.
 #[derive(Clone, Copy, PartialEq, Eq, Debug, Default)]
 pub enum Port {
     #[default]
@@ -39,7 +39,7 @@ impl fmt::Display for Port {
     }
 }
 
-// The input register behind a port of a node: empty, or holding one flit that arrived there.
+// Names the place behind a port of a node in which an arriving flit stands (in the field: an input register).
 #[derive(Clone, Copy, PartialEq, Eq, Debug, Default)]
 pub struct Slot {
     pub node: usize,
@@ -56,7 +56,7 @@ pub struct Cable {
 // One word of a packet under way.
 #[derive(Clone, Copy, PartialEq, Eq, Debug)]
 pub struct Flit {
-    // the packet's ticket: while a packet is under way no other bears its number
+    // the packet's ticket (in the field: its transaction identifier): while a packet is under way no other bears its number
     pub ticket: u16,
     // the word's place in its packet, from 0
     pub number: u8,

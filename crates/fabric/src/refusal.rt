@@ -1,4 +1,4 @@
-// Why a call is refused.
+// Why a call is refused. The calls are those of the crates calls, cabled, line and runner; the settings are explained in bounds.
 ghost use Rattle.std.specs.Prelude.{◌≡◌};
 ghost use Rattle.fabric.specs.Refusals.{number};
 
@@ -21,7 +21,7 @@ pub enum Refusal {
     NotFree,
     // collect: the ticket is not complete, or its packet has another destination
     NotComplete,
-    // the caller's memory is too short
+    // collect, listing: the caller's memory is too short
     Memory,
     // cycle: no further cycle can be numbered
     Cycles,

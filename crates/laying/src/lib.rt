@@ -19,7 +19,7 @@ use fabric::refusal::Refusal;
 use text::fault::{Fault, Layer};
 use text::parts::Run;
 
-// The lines of a sheet that every refusal but a cable's has.
+// The lines of a sheet at which refusals stand; that of a cable stands at its own.
 const LAYOUT_LINE: u32 = 1;
 
 const RUN_LINE: u32 = 3;
@@ -64,7 +64,7 @@ pub fn lay_cables(nodes: u32, cables: &[Cable]) -> Result<Cabled, Fault>
     }
 }
 
-// By hand: neither type is of this crate, so no `From` can stand here.
+// The settings that a run line names. No `From`, since neither type is of this crate.
 pub fn settings(run: Run) -> Settings
     ensures { result ≡ settings_of run }
 {

@@ -6,7 +6,7 @@ mod uses;
 
 // A line (in the field: a ring buffer) is first in, first out.
 // It fills the places of its memory in turn and round again; what it holds begins at the place `first`.
-// The memory is lent by the caller, so no vector or batch can keep the count.
+// The memory is a plain slice of the caller's, so the count stands beside it.
 #[derive(Drop)]
 pub struct Line<'a, T> {
     memory: &'a mut [T],

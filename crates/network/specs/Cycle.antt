@@ -46,7 +46,7 @@ Destined n slots p f = (slots p ≡ Some f) × (f.destination ≡ n)
 pub record Before (g : ℕ) (p : Port) (f : Flit) (q : Port) (h : Flit) : Type 0 where
   -- a golden flit is preceded only by a golden one of a number as low
   pub golden_first : h.ticket ≡ g → (f.ticket ≡ g) × (f.number ≤ h.number)
-  -- where f is not ahead of h in this, it is in slot order
+  -- where f is not ahead of h by this, it stands no later in slot order
   pub else_first : (f.ticket ≡ g → (h.ticket ≡ g) × (h.number ≤ f.number)) → place_of p ≤ place_of q
 
 -- of the flits destined for the node, the one before all others; none if none is destined for it

@@ -10,9 +10,9 @@ pub record Packet : Type 0 where
 pub data Happening : Type 0 where
   -- an accepted offer under this ticket
   offered : ℕ → Packet → Happening
-  -- a flit enters at a node
+  -- a flit enters at a node (in the field: is injected)
   entered : Flit → ℕ → Happening
-  -- a flit is taken off at a node, in a cycle
+  -- a flit is taken off at a node, in a cycle (in the field: is ejected)
   off : Flit → ℕ → ℕ → Happening
   -- under this ticket a node collects a packet, as these words
   collected : ℕ → ℕ → List ℕ → Happening

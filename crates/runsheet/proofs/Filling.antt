@@ -1,5 +1,5 @@
 -- Whatever was read, some sheet begins so: what was read, filled up to the counts.
-use Rattle.std.proofs.Common.{◌≡◌, ℕ, zero, suc, ◌-◌, ◌^◌, ◌<◌, ◌≤◌, List, [], ◌∷◌, ◌++◌, map, length, drop, replicate, sym, refl, ap, ◌∙◌, subst, append_assoc, arith}
+use Rattle.std.proofs.Common.{◌≡◌, ℕ, zero, suc, ◌-◌, ◌^◌, ◌<◌, ◌≤◌, List, [], ◌∷◌, ◌++◌, map, length, drop, replicate, slice_index, sym, refl, ap, ◌∙◌, subst, append_assoc, arith}
 use Rattle.std.specs.List.{AllByRecursion}
 use Rattle.std.proofs.lemmas.List.{length-append, length-replicate, map-append}
 use Rattle.std.proofs.ByRecursion.{All-append, All-map}
@@ -23,6 +23,13 @@ spare_plan c = record { cycle = c; node = 0; own = 0; destination = 0; count = 1
 
 abbrev pub spare_wires : Draft → ℕ → List Wire
 spare_wires d n = replicate (n - length d.cables) spare_wire
+
+no_words : (j : ℕ) → slice_index (0 ∷ 0 ∷ 0 ∷ 0 ∷ []) j ≡ 0
+no_words zero = refl
+no_words (suc zero) = refl
+no_words (suc (suc zero)) = refl
+no_words (suc (suc (suc zero))) = refl
+no_words (suc (suc (suc (suc j)))) = refl
 
 abbrev pub spare_plans : Draft → ℕ → List Plan
 spare_plans d m = replicate (m - length d.packets) (spare_plan d.last)
@@ -87,7 +94,7 @@ module _ (d : Draft) (n m : ℕ) (hn : length d.cables ≤ n) (hm : length d.pac
         uncabled = subst (Uncabled d.shape) (sym length_cables) u;
         cables = omega (arith, length_cables);
         packets = omega (arith, length_packets);
-        sized = All-append Sized d.packets (spare_plans d m) v.sized (all_replicate Sized (m - length d.packets) (spare_plan d.last) (record { some = omega arith; most = omega arith; places = refl }));
+        sized = All-append Sized d.packets (spare_plans d m) v.sized (all_replicate Sized (m - length d.packets) (spare_plan d.last) (record { some = omega arith; most = omega arith; places = refl; blank = λ j l. no_words j }));
         rising = subst (λ c. Rising 0 (d.packets ++ replicate (m - length d.packets) (spare_plan c))) (sym v.last) (rising_filled 0 (m - length d.packets) d.packets v.rising);
       }
 

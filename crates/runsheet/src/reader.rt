@@ -70,7 +70,7 @@ fn go_on<T: Copy, const N: usize>(
     if list.len() < told { item } else { past }
 }
 
-// What was read of a sheet, among it the first of `wires` cables and of `plans` packets.
+// What was read of a sheet; of its cables and packets the first of as many as were told, `wires` and `plans`.
 #[derive(Drop)]
 struct Reader {
     section: Section,

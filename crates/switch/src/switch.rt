@@ -4,7 +4,7 @@ ghost use Rattle.switch.specs.Switches.{Handing, Turn, LawfulSwitch, handed, tur
 
 use fabric::parts::{Flit, Port};
 
-// A switch answers each handing by its turn of the four places, refuses nothing and changes nothing.
+// Whatever it is handed, a switch answers the four places permuted by its turn; it refuses nothing and changes nothing.
 pub trait Switch {
     ghost turn: { Self → Handing → Turn };
 

@@ -1,5 +1,5 @@
 -- What each kind of line of a run sheet says.
-use Rattle.std.specs.Prelude.{◌≡◌, ℕ, ◌≤◌, List, [], ◌∷◌, ◌++◌, map, length, take, codes}
+use Rattle.std.specs.Prelude.{◌≡◌, ℕ, ◌≤◌, List, [], ◌∷◌, ◌++◌, map, length, take, codes, slice_index}
 use Rattle.fabric.specs.Ports.{letter}
 use Rattle.fabric.specs.declared.parts.Port.{Port}
 use Rattle.fabric.specs.declared.parts.Slot.{Slot}
@@ -65,8 +65,13 @@ payload p = take p.count p.words
 abbrev pub packet_line : Packet → List Field
 packet_line p = number p.cycle ∷ number p.node ∷ number p.own ∷ number p.destination ∷ number p.count ∷ map number (payload p)
 
--- one to four words, of the four places that a packet has
+-- from place n on there are zeros
+abbrev pub Blank : ℕ → List ℕ → Type 0
+Blank n ws = (j : ℕ) → n ≤ j → slice_index ws j ≡ 0
+
+-- one to four words, of the four places that a packet has, and 0 in the others
 pub record Sized (p : Packet) : Type 0 where
   pub some : 1 ≤ p.count
   pub most : p.count ≤ 4
   pub places : length p.words ≡ 4
+  pub blank : Blank p.count p.words

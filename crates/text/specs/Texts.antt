@@ -12,6 +12,7 @@ abbrev pub shown : Field → List ℕ
 shown (word w) = w
 shown (number n) = decimal n
 
+-- a number fits 32 bits
 abbrev pub Fits : Field → Type 0
 Fits (word w) = Unit {0}
 Fits (number n) = n < 2 ^ 32

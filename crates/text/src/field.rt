@@ -17,7 +17,7 @@ pub(crate) fn find(text: &[u8], b: u8) -> Option<usize>
     text.iter().position(|x| *x == b)
 }
 
-// For guards. A pattern of bytes is checked byte by byte, and what `==` says of slices is no fact of equality yet.
+// Whether two byte strings are the same, for the guards of a match: a pattern of bytes is checked byte by byte, and of `==` on slices a proof learns no equality.
 pub fn is(word: &[u8], fixed: &[u8]) -> bool
     ensures { Decides result (word.now ≡ fixed.now) }
 {
@@ -61,7 +61,7 @@ impl<'a> Fields<'a> {
         number(word, self.line)
     }
 
-    // The next field, a port's letter. Compared with fixed byte strings, a form of the project.
+    // The next field, a port's letter.
     pub(crate) fn port(&mut self) -> Result<Port, Fault>
         ensures { Begins port_field Any self.old self.new result }
     {

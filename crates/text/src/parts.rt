@@ -34,7 +34,7 @@ pub struct Run {
 }
 
 // A planned packet: when it is offered and by whom, and its words, the first `count` of four.
-// No batch: its fields are public, and a test's value names the four places.
+// The words are no `Batch` (a list of fixed capacity), so that a test can write a packet out.
 #[derive(Clone, Copy, PartialEq, Eq, Debug, Default)]
 pub struct Packet {
     pub cycle: u32,

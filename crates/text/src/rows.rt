@@ -1,8 +1,8 @@
-// What each kind of line says, after its first word if that is fixed.
+// What each kind of line says. A line of a cable or a packet is read from its start, any other from behind its first word.
 ghost use Rattle.std.specs.Prelude.{◌≡◌, ◌≤◌, [], ◌∷◌, map, length, take, codes};
 ghost use Rattle.text.specs.Fields.{words, Reads, Begins};
 ghost use Rattle.text.specs.Texts.{number, Any};
-ghost use Rattle.text.specs.Lines.{shape_line, kind_field, kind_line, run_line, Brief, cables_line, Uncabled, slot_fields, cable_line, packet_line, Sized};
+ghost use Rattle.text.specs.Lines.{shape_line, kind_field, kind_line, run_line, Brief, cables_line, Uncabled, slot_fields, cable_line, packet_line, Blank, Sized};
 
 use super::fault::Fault;
 use super::field::{Fields, is};
@@ -13,6 +13,7 @@ const MOST_CYCLES: u32 = 65535;
 
 const MOST_WORDS: u32 = 4;
 
+// `mesh W H`
 pub fn mesh(mut fields: Fields) -> Result<Shape, Fault>
     ensures { Reads shape_line Any (codes "mesh" ∷ words fields.entry) fields.entry.line result }
 {
@@ -22,6 +23,7 @@ pub fn mesh(mut fields: Fields) -> Result<Shape, Fault>
     Ok(Shape::Mesh { width, height })
 }
 
+// `cabled N`
 pub fn cabled(mut fields: Fields) -> Result<Shape, Fault>
     ensures { Reads shape_line Any (codes "cabled" ∷ words fields.entry) fields.entry.line result }
 {
@@ -30,7 +32,7 @@ pub fn cabled(mut fields: Fields) -> Result<Shape, Fault>
     Ok(Shape::Cabled { nodes })
 }
 
-// The next field, the name of a kind of switch. Compared with fixed byte strings, a form of the project.
+// The next field, the name of a kind of switch.
 fn kind(fields: &mut Fields) -> Result<SwitchKind, Fault>
     ensures { Begins kind_field Any fields.old fields.new result }
 {
@@ -41,6 +43,7 @@ fn kind(fields: &mut Fields) -> Result<SwitchKind, Fault>
     }
 }
 
+// `switch chipper` or `switch bless`
 pub fn switch(mut fields: Fields) -> Result<SwitchKind, Fault>
     ensures { Reads kind_line Any (codes "switch" ∷ words fields.entry) fields.entry.line result }
 {
@@ -49,6 +52,7 @@ pub fn switch(mut fields: Fields) -> Result<SwitchKind, Fault>
     Ok(kind)
 }
 
+// `run T M L seed cycles`
 pub fn run(mut fields: Fields) -> Result<Run, Fault>
     ensures { Reads run_line Brief (codes "run" ∷ words fields.entry) fields.entry.line result }
 {
@@ -70,7 +74,7 @@ pub fn run(mut fields: Fields) -> Result<Run, Fault>
     })
 }
 
-// The count that a list begins with.
+// `packets P`, or the count of any list.
 pub fn count(mut fields: Fields) -> Result<usize, Fault>
     ensures { Reads (λ n. number n ∷ []) Any (words fields.entry) fields.entry.line result }
 {
@@ -79,7 +83,7 @@ pub fn count(mut fields: Fields) -> Result<usize, Fault>
     Ok(count)
 }
 
-// A mesh has no cables.
+// `cables C`, which is 0 for a mesh.
 pub fn cables(fields: Fields, shape: Shape) -> Result<usize, Fault>
     ensures { Reads cables_line (Uncabled shape) (codes "cables" ∷ words fields.entry) fields.entry.line result }
 {
@@ -99,6 +103,7 @@ fn slot(fields: &mut Fields) -> Result<Slot, Fault>
     Ok(Slot { node, port })
 }
 
+// `node port node port`
 pub fn cable(mut fields: Fields) -> Result<Cable, Fault>
     ensures { Reads cable_line Any (words fields.entry) fields.entry.line result }
 {
@@ -111,7 +116,7 @@ pub fn cable(mut fields: Fields) -> Result<Cable, Fault>
 // The words of a packet, `count` of them.
 fn payload(fields: &mut Fields, count: usize) -> Result<[u32; 4], Fault>
     requires { count ≤ 4 }
-    ensures { Begins (λ ns. map number (take count ns)) (λ ns. length ns ≡ 4) fields.old fields.new result }
+    ensures { Begins (λ ns. map number (take count ns)) (λ ns. (length ns ≡ 4) × Blank count ns) fields.old fields.new result }
 {
     let mut words = [0; 4];
     // By index: after a loop over `&mut words[..count]` a proof knows the length of `words`, and not what it holds.
@@ -121,7 +126,7 @@ fn payload(fields: &mut Fields, count: usize) -> Result<[u32; 4], Fault>
     Ok(words)
 }
 
-// A packet that is not due before cycle `last`.
+// `cycle node own destination count words`, of a packet that is not due before cycle `last`
 pub fn packet(mut fields: Fields, last: u32) -> Result<Packet, Fault>
     ensures { Reads packet_line (λ p. Sized p × (last ≤ p.cycle)) (words fields.entry) fields.entry.line result }
 {

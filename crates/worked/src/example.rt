@@ -3,8 +3,8 @@ ghost use Rattle.std.specs.Prelude.{◌≡◌};
 ghost use Rattle.network.specs.Runs.{count_off};
 ghost use Rattle.worked.specs.Example.{happenings, Example, Excluded};
 
-// How many flits are ejected in the run. Flits are injected, deflected, ejected and collected in it,
-// and a network that only counted its cycles, refused all offers, always looked alike or left its switch out would not have it.
+// How many flits are ejected in the run. Flits are injected, deflected and ejected in it and packets collected,
+// and a network that only counted its cycles, refused all offers, answered every look the same or never asked its switch would not have it.
 pub fn ejected() -> usize
     ensures run { Example }
     ensures excluded { Excluded }

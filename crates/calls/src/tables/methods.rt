@@ -61,7 +61,7 @@ impl Tables {
         self.tickets[ticket] = None;
     }
 
-    // Enters the word of an ejected flit in its ticket's record.
+    // Writes the word of an ejected flit into its ticket's record.
     pub(crate) fn take_in(&mut self, flit: Flit)
         ensures { TakesIn self.old self.new flit }
     {

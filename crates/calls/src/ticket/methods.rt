@@ -6,7 +6,7 @@ ghost use Rattle.calls.specs.Records.{Packed, all_in, values, Receives, Sends};
 use super::{Ticket, WORDS};
 use fabric::parts::Flit;
 
-// Every one of the first places holds a word.
+// Whether every one of the first places holds a word.
 fn all_received(received: &[Option<u32>; WORDS], places: usize) -> bool
     requires { places ≤ 4 }
     ensures { result ≡ all_in received.now places }
@@ -37,7 +37,7 @@ impl Ticket {
         usize::from(self.size).min(WORDS)
     }
 
-    // Every word of its packet is received.
+    // Whether every word of its packet is received.
     pub(crate) fn complete(&self) -> bool
         ensures { result ≡ all_in self.now.received (min self.now.size 4) }
     {
@@ -54,7 +54,7 @@ impl Ticket {
         memory[..places].copy_from_slice(&words[..places]);
     }
 
-    // Enters a word in its place.
+    // Writes a word at its place.
     pub(crate) fn receive(&mut self, number: u8, word: u32)
         ensures { Receives self.old self.new number word }
     {

@@ -3,7 +3,7 @@ use Rattle.std.specs.List.{AllByRecursion}
 use Rattle.std.proofs.lemmas.Result.{err_from_is_err_and}
 use Rattle.text.specs.Faults.{ill_formed}
 use Rattle.text.specs.Texts.{Fits, number}
-use Rattle.text.specs.Lines.{payload, packet_line, Sized}
+use Rattle.text.specs.Lines.{payload, packet_line, Blank, Sized}
 use Rattle.text.proofs.Exits.{passed, after}
 use Rattle.text.proofs.Payload.{figures, figures_only, figures_end, same_front}
 use Rattle.text.proofs.rows.packet.Goals as goal
@@ -46,7 +46,7 @@ returns-in_err-words c =
     (c.in_err-words.ensures.0.0 ∙ ap ill_formed (c.in_ok-count.ensures.1 ∙ c.in_ok-destination.ensures.1 ∙ c.in_ok-own.ensures.1 ∙ c.in_ok-node.ensures.1 ∙ c.in_ok-cycle.ensures.1))
     (λ x fits p e.
     let s = same_front _ _ _ _ _ _ _ _ _ _ _ x c.in_ok-cycle.ensures.0.0 c.in_ok-node.ensures.0.0 c.in_ok-own.ensures.0.0 c.in_ok-destination.ensures.0.0 c.in_ok-count.ensures.0.0 c.in_ok-cycle.ensures.0.1.0 c.in_ok-count.ensures.0.1.0 fits e in
-    c.in_err-words.ensures.0.1 x.words [] (subst (λ k. AllByRecursion Fits (map number (take k x.words))) (sym s.1) fits.1.1.1.1.1) p.0.places (figures_only _ _ s.2))
+    c.in_err-words.ensures.0.1 x.words [] (subst (λ k. AllByRecursion Fits (map number (take k x.words))) (sym s.1) fits.1.1.1.1.1) (p.0.places, subst (λ k. Blank k x.words) (sym s.1) p.0.blank) (figures_only _ _ s.2))
 
 pub returns-in_err-end : goal.returns-in_err-end
 returns-in_err-end c =
@@ -55,4 +55,4 @@ returns-in_err-end c =
     (λ x fits p e.
     let s = same_front _ _ _ _ _ _ _ _ _ _ _ x c.in_ok-cycle.ensures.0.0 c.in_ok-node.ensures.0.0 c.in_ok-own.ensures.0.0 c.in_ok-destination.ensures.0.0 c.in_ok-count.ensures.0.0 c.in_ok-cycle.ensures.0.1.0 c.in_ok-count.ensures.0.1.0 fits e in
     let w = c.in_ok-words.ensures.0 in
-    c.in_err-end.ensures.1 (figures_end x.words c.in_ok-words.words c.in_ok-count.count _ _ (omega (arith, s.1, p.0.most, p.0.places)) (omega (arith, s.1, p.0.most, w.2)) w.0 s.2))
+    c.in_err-end.ensures.1 (figures_end x.words c.in_ok-words.words c.in_ok-count.count _ _ (omega (arith, s.1, p.0.most, p.0.places)) (omega (arith, s.1, p.0.most, w.2.0)) w.0 s.2))

@@ -2,6 +2,7 @@ use Rattle.std.proofs.Common.{◌≡◌, ◌+◌, ◌++◌, map, length, get_or,
 use Rattle.std.proofs.lemmas.Result.{err_from_is_err_and}
 use Rattle.text.specs.Faults.{ill_formed}
 use Rattle.text.specs.Texts.{number}
+use Rattle.text.specs.Lines.{Blank}
 use Rattle.text.proofs.Exits.{opened}
 use Rattle.text.proofs.Payload.{figures, figures_next, fits_at}
 use Rattle.text.proofs.rows.payload.Goals as goal
@@ -11,11 +12,11 @@ returns-in_err-words c =
     let i = c.loop-i.i in
     let k = c.args.count in
     let inv = c.loop-i.invariant in
-    opened (λ ns. map number (take k ns)) (λ ns. length ns ≡ 4) c.args.fields.now c.number.new.self _ _ (err_from_is_err_and _ c.from_residual.ensures.1)
-    (c.in_err-words.ensures.0.0 ∙ ap ill_formed inv.3)
+    opened (λ ns. map number (take k ns)) (λ ns. (length ns ≡ 4) × Blank k ns) c.args.fields.now c.number.new.self _ _ (err_from_is_err_and _ c.from_residual.ensures.1)
+    (c.in_err-words.ensures.0.0 ∙ ap ill_formed inv.4)
     (λ xs more fits p e.
     c.in_err-words.ensures.0.1 (get_or xs i 0) (drop (i + 1) (figures (take k xs) ++ more))
     (fits_at xs k i c.loop-i-test.true (omega arith) fits, tt)
     tt
     (figures_next xs c.loop-i.words k i _ more c.loop-i-test.true (omega arith) (omega (arith, inv.2)) (sym inv.0 ∙ e)))
-    (c.in_err-words.ensures.1 ∙ inv.3)
+    (c.in_err-words.ensures.1 ∙ inv.4)
