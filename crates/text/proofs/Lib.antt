@@ -3,6 +3,7 @@ pub mod Exits
 pub mod Numbers
 pub mod Parting
 pub mod Payload
+pub mod Single
 pub mod Stopping
 pub mod Tidy
 pub mod Words
