@@ -3,4 +3,5 @@ mod Filling
 mod Following
 mod Moves
 mod Sections
+pub mod Single
 mod Stopped

@@ -7,3 +7,4 @@ pub mod Single
 pub mod Stopping
 pub mod Tidy
 pub mod Words
+pub mod Values
