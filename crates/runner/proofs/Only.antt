@@ -1,9 +1,9 @@
--- A run has one listing: each part of a run is computed from the state before it, and so is the listing.
-use Rattle.std.proofs.Common.{◌≡◌, ℕ, zero, suc, ◌<◌, cond, eqb, List, [], ◌∷◌, ◌++◌, map, take, sym, refl, ap, ◌∙◌, ap₂, append-nil, add-one, arith}
+-- A text has one listing: each part of a run is computed from the state before it, and so is the listing; and a text is that of one sheet, or has one fault.
+use Rattle.std.proofs.Common.{◌≡◌, ℕ, zero, suc, ◌<◌, cond, eqb, List, [], ◌∷◌, ◌++◌, map, take, sym, refl, ap, ◌∙◌, subst, ap₂, inl, inr, append-nil, add-one, arith}
 use mathlib.Core.List.{append_cancel_right}
 use Rattle.std.specs.List.{AllByRecursion}
 use Rattle.std.proofs.lemmas.Bool.{eq-eqb, ne_eqb, cond-true, cond-false}
-use Rattle.fabric.specs.Layouts.{Lawful}
+use Rattle.fabric.specs.Layouts.{Plan, Lawful}
 use Rattle.fabric.specs.Verdicts.Verdict.{granted, refused}
 use Rattle.line.specs.Queues.{Queue}
 use Rattle.bounds.specs.declared.settings.Settings.{Settings}
@@ -20,8 +20,16 @@ use Rattle.network.specs.Promises.{puts}
 use Rattle.network.specs.Computed.{done, cycled, next, outcome}
 use Rattle.network.proofs.Solving.{cycle_one, served_one}
 use Rattle.text.specs.declared.parts.Packet.{Packet}
-use Rattle.text.specs.Texts.{Field, text}
+use Rattle.text.specs.Texts.{Field, text, written}
+use Rattle.text.specs.Faults.{fault_fields}
+use Rattle.runsheet.specs.Said.{Said}
+use Rattle.runsheet.proofs.Single.{one_sheet}
+use Rattle.laying.specs.Reports.{Report}
+use Rattle.laying.specs.Reports.Report.{answers, faults}
+use Rattle.laying.specs.Layings.{settings_of, Judged}
+use Rattle.laying.proofs.Single.{one_judgement, judged_law}
 use Rattle.writer.specs.Listings.{no_line, done_line, end_line}
+use Rattle.runner.specs.Answering.{network_of, ListsSheet}
 use Rattle.runner.specs.Listing.{line_of, ins, outs, under_way, mean_of, offer_of, Offers, Collects, Turn, Turns, Lists}
 use Rattle.runner.specs.Listing.Offers.{none as none_offered, accepted, declined}
 use Rattle.runner.specs.Listing.Collects.{none as none_collected, brought, left}
@@ -173,5 +181,26 @@ module _ (F : Fabric) (P : Settings) where
     listing_is : {ps : List Packet} {cycles : ℕ} {bs : List ℕ} → Lists F P ps cycles bs → bs ≡ listing_of (stage ps cycles)
     listing_is l = l.bytes ∙ ap listing_of (turns_are l.turns)
 
+-- a run has one listing: whatever lines of events its cycles are called with
+one_run : (F : Fabric) (P : Settings) → Lawful F.plan → (ps : List Packet) (cycles : ℕ) (bs bs' : List ℕ) → Lists F P ps cycles bs → Lists F P ps cycles bs' → bs ≡ bs'
+one_run F P law ps cycles bs bs' l l' = listing_is F P law l ∙ sym (listing_is F P law l')
+
+-- and so has a sheet
+abbrev Judges : Said → Report Plan → Type 0
+Judges s r = Judged s.shape s.cables s.run r
+
+one_answer : (s : Said) (r : Report Plan) (bs bs' : List ℕ) → Judges s r → ListsSheet s r bs → ListsSheet s r bs' → bs ≡ bs'
+one_answer s (answers p) bs bs' j l l' = one_run (network_of p s) (settings_of s.run) (judged_law s.shape s.cables s.run p j) s.packets s.run.cycles bs bs' l l'
+one_answer s (faults x) bs bs' j l l' = l ∙ sym l'
+
+one_judged : (s : Said) (r r' : Report Plan) (bs bs' : List ℕ) → Judges s r → Judges s r' → ListsSheet s r bs → ListsSheet s r' bs' → bs ≡ bs'
+one_judged s r r' bs bs' j j' l l' =
+    one_answer s r bs bs' j l (subst (λ (q : Report Plan). ListsSheet s q bs') (one_judgement s.shape s.cables s.run r' r j' j) l')
+
 pub one_listing : OneListing
-one_listing F P law ps cycles bs bs' l l' = listing_is F P law l ∙ sym (listing_is F P law l')
+one_listing text bs bs' (inl (s, read, (r, j, l))) (inl (t, read', (r', j', l'))) =
+    let k = subst (λ (u : Said). Judges u r' × ListsSheet u r' bs') ((one_sheet text).sheet t s read' read) (j', l') in
+    one_judged s r r' bs bs' j k.0 l k.1
+one_listing text bs bs' (inl (s, read, h)) (inr (f, h', e)) = absurd ((one_sheet text).none s f read h')
+one_listing text bs bs' (inr (f, h', e)) (inl (s, read, h)) = absurd ((one_sheet text).none s f read h')
+one_listing text bs bs' (inr (f, h, e)) (inr (g, k, i)) = e ∙ ap (λ x. written (fault_fields x)) ((one_sheet text).fault f g h k) ∙ sym i

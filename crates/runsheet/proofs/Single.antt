@@ -1,5 +1,5 @@
--- A text is that of one sheet at most.
-use Rattle.std.proofs.Common.{◌≡◌, ℕ, List, [], ◌∷◌, ◌++◌, map, length, get_or, take, drop, sym, refl, ap, ◌∙◌, ap₂}
+-- A text is that of one sheet at most, or has one fault.
+use Rattle.std.proofs.Common.{◌≡◌, ℕ, ◌^◌, List, [], ◌∷◌, ◌++◌, map, length, get_or, take, drop, sym, refl, ap, ◌∙◌, ap₂}
 use Rattle.std.specs.List.{AllByRecursion}
 use Rattle.std.proofs.lemmas.List.{map-append, length-map, take_at, drop_at}
 use Rattle.text.specs.Texts.{Field, Fits, shown, Any}
@@ -7,7 +7,7 @@ use Rattle.text.specs.Lines.{cables_line, cable_line, packets_line, packet_line,
 use Rattle.text.proofs.Single.{same_text, one_fault, no_fault}
 use Rattle.text.proofs.Values.{tell_shape, tell_kind, tell_run, tell_cables, tell_cable, tell_packet, tell_all}
 use Rattle.runsheet.specs.Said.{Said}
-use Rattle.runsheet.specs.Sheets.{lines, SheetText}
+use Rattle.runsheet.specs.Sheets.{lines, Formed, SheetText, OneSheet}
 use Rattle.runsheet.proofs.Apart.{tidy_lines, fits_cables, fits_packets}
 
 -- the words of lines
@@ -35,8 +35,8 @@ module _ (s : Said) where
   back : drop (length s.cables) (drop 4 (words (lines s))) ≡ words (tail s)
   back = ap (drop (length s.cables)) parted ∙ drop_at (words (map cable_line s.cables)) (words (tail s)) (length s.cables) count
 
-one_sheet : (bs : List ℕ) (s t : Said) → SheetText bs s → SheetText bs t → s ≡ t
-one_sheet bs s t a b = λ i. record {
+same_sheet : (bs : List ℕ) (s t : Said) → SheetText bs s → SheetText bs t → s ≡ t
+same_sheet bs s t a b = λ i. record {
   shape = tell_shape s.shape t.shape f.0 g.0 tt tt (ap (λ w. get_or w 0 []) e) i;
   kind = tell_kind s.kind t.kind f.1.0 g.1.0 tt tt (ap (λ w. get_or w 1 []) e) i;
   run = tell_run s.run t.run f.1.1.0 g.1.1.0 tt tt (ap (λ w. get_or w 2 []) e) i;
@@ -61,3 +61,10 @@ one_sheet bs s t a b = λ i. record {
 
     packets : words (tail s) ≡ words (tail t)
     packets = sym (back s) ∙ ap₂ (λ (k : ℕ) (w : List (List (List ℕ))). drop k (drop 4 w)) n e ∙ back t
+
+pub one_sheet : (bs : List ℕ) → OneSheet bs
+one_sheet bs = record {
+  sheet = same_sheet bs;
+  none = λ s f a. no_fault lines (Formed 128 256) (Formed (2 ^ 32) (2 ^ 32)) bs s f a.1 a.0 a.2;
+  fault = one_fault lines (Formed 128 256) (Formed (2 ^ 32) (2 ^ 32)) bs;
+}

@@ -2,7 +2,7 @@
 use Rattle.std.specs.Prelude.{◌≡◌, ℕ, ◌^◌, ◌≤◌, List, [], ◌∷◌, ◌++◌, map, length}
 use Rattle.std.specs.List.{AllByRecursion}
 use Rattle.text.specs.Texts.{Field, Fits, text}
-use Rattle.text.specs.Faults.{Faulty}
+use Rattle.text.specs.Faults.{told, Faulty}
 use Rattle.text.specs.Lines.{shape_line, kind_line, run_line, Brief, cables_line, Uncabled, cable_line, packets_line, packet_line, Sized}
 use Rattle.text.specs.declared.fault.Fault.{Fault}
 use Rattle.text.specs.declared.parts.Packet.{Packet}
@@ -36,3 +36,9 @@ SheetText bs s = (length bs ≤ 65536) × Formed 128 256 s × (bs ≡ text (line
 -- the bytes are no sheet's text, by this fault
 abbrev pub Refused : List ℕ → Fault → Type 0
 Refused bs f = Faulty lines (Formed 128 256) (Formed (2 ^ 32) (2 ^ 32)) bs f
+
+-- the bytes are the text of one sheet at most, and then they have no fault; and else one fault
+pub record OneSheet (bs : List ℕ) : Type 0 where
+  pub sheet : (s t : Said) → SheetText bs s → SheetText bs t → s ≡ t
+  pub none : (s : Said) (f : Fault) → SheetText bs s → Refused bs f → ⊥
+  pub fault : (f g : Fault) → Refused bs f → Refused bs g → told f ≡ told g

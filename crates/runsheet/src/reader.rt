@@ -6,7 +6,7 @@ ghost use Rattle.text.specs.Faults.{told, too_many};
 ghost use Rattle.text.specs.Fields.{words};
 ghost use Rattle.text.specs.Texts.{Fits};
 ghost use Rattle.runsheet.specs.Said.{said};
-ghost use Rattle.runsheet.specs.Sheets.{SheetText, Refused};
+ghost use Rattle.runsheet.specs.Sheets.{SheetText, Refused, OneSheet};
 ghost use Rattle.runsheet.specs.Reading.{entry_line, draft, Suits, Judges, Within, Exceeds, Valid, Grown, Reached, Refuses, after};
 
 use super::sheet::Sheet;
@@ -113,9 +113,7 @@ impl Reader {
         let word = fields.word()?;
         match (self.section, word) {
             (Section::Layout, w) if is(w, b"mesh") => rows::mesh(fields).map(Entry::Shape),
-            (Section::Layout, w) if is(w, b"cabled") => {
-                rows::cabled(fields).map(Entry::Shape)
-            }
+            (Section::Layout, w) if is(w, b"cabled") => { rows::cabled(fields).map(Entry::Shape) }
             (Section::Switch, w) if is(w, b"switch") => rows::switch(fields).map(Entry::Kind),
             (Section::Run, w) if is(w, b"run") => rows::run(fields).map(Entry::Run),
             (Section::Cables, w) if is(w, b"cables") => {
@@ -183,7 +181,8 @@ impl Reader {
 
 // Reads a whole sheet.
 pub fn read(bytes: &[u8]) -> Result<Sheet, Fault>
-    ensures { MatchResult result (λ s. SheetText bytes.now (said s)) (λ f. Refused bytes.now f) }
+    ensures read { MatchResult result (λ s. SheetText bytes.now (said s)) (λ f. Refused bytes.now f) }
+    ensures only { OneSheet bytes.now }
 {
     let mut lines = Lines::new(bytes)?;
     let mut reader = Reader::new();

@@ -8,10 +8,11 @@ use Rattle.runsheet.specs.Reading.{draft, entry_line, lines_read, Refuses}
 use Rattle.text.proofs.Exits.{err_at}
 use Rattle.text.proofs.Stopping.{is_line, onward}
 use Rattle.runsheet.proofs.Stopped.{refused, unended, missing, finished}
+use Rattle.runsheet.proofs.Single.{one_sheet}
 use Rattle.runsheet.proofs.reader.read.Goals as goal
 
-pub returns-in_err-next_line : goal.returns-in_err-next_line
-returns-in_err-next_line c =
+pub returns-in_err-next_line-clause-read : goal.returns-in_err-next_line-clause-read
+returns-in_err-next_line-clause-read c =
     let bs = c.args.bytes.now in
     let i = c.loop-reader.invariant in
     let h = c.in_err-next_line.ensures in
@@ -30,20 +31,35 @@ loop-reader-preserved c =
       n.2 ∙ ap (λ k. k + 1) i.2 ∙ sym (length_push A (entry_line s.0)) ∙ ap length (sym s.1.lines),
     )
 
-pub returns-in_err-step : goal.returns-in_err-step
-returns-in_err-step c =
+pub returns-in_err-step-clause-read : goal.returns-in_err-step-clause-read
+returns-in_err-step-clause-read c =
     let bs = c.args.bytes.now in
     let i = c.loop-reader.invariant in
     let n = c.in_ok-next_line.ensures in
     err_at _ (Refused bs) _ _ (err_from_is_err_and _ c.from_residual-in_err-step.ensures.1)
     (refused (draft c.loop-reader.reader) bs c.loop-reader.lines.rest.now i.0 i.1 c.in_ok-lines.ensures.0 _ c.loop-reader.lines.read i.2 _ _ n.0 (subst (λ k. Refuses (draft c.loop-reader.reader) k (words c.in_ok-next_line.field-0) c.in_err-step.field-0.0) n.1 c.in_err-step.ensures))
 
-pub returns-in_default : goal.returns-in_default
-returns-in_default c =
+pub returns-in_default-clause-read : goal.returns-in_default-clause-read
+returns-in_default-clause-read c =
     let i = c.loop-reader.invariant in
     missing (draft c.loop-reader.reader) c.args.bytes.now c.loop-reader.lines.rest.now i.0 i.1 c.in_ok-lines.ensures.0 _ c.loop-reader.lines.read i.2 c.fault.ensures c.in_default.not-End (c.is_empty.ensures.0 c.loop-reader-test.false)
 
-pub returns-in-End : goal.returns-in-End
-returns-in-End c =
+pub returns-in-End-clause-read : goal.returns-in-End-clause-read
+returns-in-End-clause-read c =
     let i = c.loop-reader.invariant in
     finished (draft c.loop-reader.reader) c.args.bytes.now c.loop-reader.lines.rest.now _ i.0 i.1 c.in-End.is (c.is_empty.ensures.0 c.loop-reader-test.false) c.in_ok-lines.ensures.0 c.new-in-End.ensures
+
+pub returns-in_err-lines-clause-only : goal.returns-in_err-lines-clause-only
+returns-in_err-lines-clause-only c = one_sheet c.args.bytes.now
+
+pub returns-in_err-next_line-clause-only : goal.returns-in_err-next_line-clause-only
+returns-in_err-next_line-clause-only c = one_sheet c.args.bytes.now
+
+pub returns-in_err-step-clause-only : goal.returns-in_err-step-clause-only
+returns-in_err-step-clause-only c = one_sheet c.args.bytes.now
+
+pub returns-in_default-clause-only : goal.returns-in_default-clause-only
+returns-in_default-clause-only c = one_sheet c.args.bytes.now
+
+pub returns-in-End-clause-only : goal.returns-in-End-clause-only
+returns-in-End-clause-only c = one_sheet c.args.bytes.now
