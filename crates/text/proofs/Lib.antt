@@ -1,10 +1,10 @@
 pub mod Aligned
 pub mod Exits
+pub mod Figures
 pub mod Numbers
 pub mod Parting
-pub mod Payload
 pub mod Single
 pub mod Stopping
 pub mod Tidy
-pub mod Words
 pub mod Values
+pub mod Words

@@ -1,23 +1,28 @@
 -- Parting a text by a byte, and joining the parts by it.
-use Rattle.std.proofs.Common.{◌≡◌, ℕ, ◌+◌, ◌<◌, ◌≤◌, eqb, List, [], ◌∷◌, ◌++◌, length, get_or, take, drop, sym, refl, ap, ◌∙◌, subst, ⊎_elim, Option, None, Some, Bor, true, arith}
-use Rattle.std.specs.List.{flat_map, position, position_or_len, AllByRecursion}
+use Rattle.std.proofs.Common.{◌≡◌, ℕ, ◌+◌, ◌<◌, ◌≤◌, eqb, List, [], ◌∷◌, ◌++◌, length, get_or, take, drop, sym, refl, ap, ◌∙◌, subst, Option, None, Some, Bor, true, false, arith}
+use Rattle.std.specs.List.{position, position_or_len, AllByRecursion, join_with_byte}
 use Rattle.std.specs.Option.{is_some, option_map_or, unwrap_or}
 use Rattle.std.specs.Slice.{IsGetRangeResult}
 use Rattle.std.proofs.lemmas.List.{append-nil, take-append-drop, drop_more, take_all, take_rest, length-take-le, get_or-take}
+use Rattle.std.proofs.lemmas.List.Elements.{All-from_recursion}
+use Rattle.std.proofs.lemmas.List.Splits.{slice_split_none, slice_split_at, length-slice_split, join_with_byte-slice_split}
 use Rattle.std.proofs.lemmas.List.Quantifiers.{position-Some}
 use Rattle.std.proofs.lemmas.List.Sums.{fails_before_first}
 use Rattle.std.proofs.lemmas.Grind.{common_steps}
 use Rattle.std.proofs.ByRecursion.{All-from_get_or}
-use Rattle.std.proofs.lemmas.Bool.{cond-true, cond-false, eq-eqb, ne_eqb, cases_Bool, eqb-true, false≢true}
-use Rattle.text.specs.Texts.{parted, onto, spaced, Free}
+use Rattle.std.proofs.lemmas.Bool.{eq-eqb, ne_eqb, eqb-true, false≢true}
+use Rattle.text.specs.Texts.{parted, spaced, Free}
+
+-- b is not among these bytes, as the library says it
+apart : (b : ℕ) (w : List ℕ) → Free b w → AllByRecursion (λ x. eqb x b ≡ false) w
+apart b [] h = tt
+apart b (x ∷ xs) h = (ne_eqb x b h.0, apart b xs h.1)
 
 pub parted_free : (b : ℕ) (w : List ℕ) → Free b w → parted b w ≡ w ∷ []
-parted_free b [] h = refl
-parted_free b (x ∷ xs) h = cond-false (eqb x b) _ _ (ne_eqb x b h.0) ∙ ap (onto x) (parted_free b xs h.1)
+parted_free b w h = slice_split_none (λ x. eqb x b) w (All-from_recursion _ w (apart b w h))
 
 pub parted_at : (b : ℕ) (w r : List ℕ) → Free b w → parted b (w ++ b ∷ r) ≡ w ∷ parted b r
-parted_at b [] r h = cond-true (eqb b b) _ _ (eq-eqb b b refl)
-parted_at b (x ∷ xs) r h = cond-false (eqb x b) _ _ (ne_eqb x b h.0) ∙ ap (onto x) (parted_at b xs r h.1)
+parted_at b w r h = slice_split_at (λ x. eqb x b) w b r (All-from_recursion _ w (apart b w h)) (eq-eqb b b refl)
 
 -- what stands before the first b, which is at index e
 pub first_at : (b : ℕ) (s : List ℕ) (e : ℕ) → position (λ x. eqb x b) s ≡ Some e → (e < length s) × Free b (take e s) × (get_or s e 0 ≡ b)
@@ -51,35 +56,18 @@ pub parted_spaced : (w : List ℕ) (ws : List (List ℕ)) → AllByRecursion (Fr
 parted_spaced w [] h = ap (parted 32) (append-nil w) ∙ parted_free 32 w h.0
 parted_spaced w (v ∷ vs) h = parted_at 32 w (spaced (v ∷ vs)) h.0 ∙ ap (λ r. w ∷ r) (parted_spaced v vs h.1)
 
-pub parted_some : (b : ℕ) (s : List ℕ) → (w : List ℕ) × (ws : List (List ℕ)) × (parted b s ≡ w ∷ ws)
-parted_some b [] = ([], [], refl)
-parted_some b (x ∷ xs) =
-    let k = parted_some b xs in
-    ⊎_elim
-    (λ e. ([], parted b xs, cond-true (eqb x b) _ _ e))
-    (λ e. (x ∷ k.0, k.1, cond-false (eqb x b) _ _ e ∙ ap (onto x) k.2))
-    (cases_Bool (eqb x b))
-
-spaced_onto : (x : ℕ) (ws : List (List ℕ)) → spaced (onto x ws) ≡ x ∷ spaced ws
-spaced_onto x [] = refl
-spaced_onto x (w ∷ ws) = refl
+joined : (ws : List (List ℕ)) → spaced ws ≡ join_with_byte 32 ws
+joined [] = refl
+joined (w ∷ []) = append-nil w
+joined (w ∷ v ∷ vs) = ap (λ r. w ++ 32 ∷ r) (joined (v ∷ vs))
 
 -- joining undoes the parting
 pub spaced_parted : (s : List ℕ) → spaced (parted 32 s) ≡ s
-spaced_parted [] = refl
-spaced_parted (x ∷ xs) =
-    let k = parted_some 32 xs in
-    ⊎_elim
-    (λ e. ap spaced (cond-true (eqb x 32) _ _ e) ∙ ap (flat_map (λ v. 32 ∷ v)) k.2 ∙ ap (λ r. 32 ∷ r) (ap spaced (sym k.2) ∙ spaced_parted xs) ∙ ap (λ y. y ∷ xs) (sym (eqb-true x 32 e)))
-    (λ e. ap spaced (cond-false (eqb x 32) _ _ e) ∙ spaced_onto x (parted 32 xs) ∙ ap (λ r. x ∷ r) (spaced_parted xs))
-    (cases_Bool (eqb x 32))
+spaced_parted s = joined (parted 32 s) ∙ join_with_byte-slice_split 32 s
 
 -- a text has a part
-parted_not_none : (b : ℕ) (s : List ℕ) → parted b s ≡ [] → ⊥
-parted_not_none b s e =
-    let k = parted_some b s in
-    let f : k.0 ∷ k.1 ≡ [] = sym k.2 ∙ e in
-    cc
+pub parted_not_none : (b : ℕ) (s : List ℕ) → parted b s ≡ [] → ⊥
+parted_not_none b s e = omega (arith, length-slice_split (λ x. eqb x b) s, ap length e)
 
 -- the parts of what is left of a line
 abbrev pub left : Option (Bor (List ℕ)) → List (List ℕ)

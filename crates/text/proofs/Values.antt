@@ -17,7 +17,7 @@ use Rattle.text.specs.declared.parts.Shape.{Shape}
 use Rattle.text.specs.declared.parts.Shape.TheVariants.{Mesh, Cabled}
 use Rattle.text.specs.declared.parts.SwitchKind.{SwitchKind}
 use Rattle.text.specs.declared.parts.SwitchKind.TheVariants.{Chipper, Bless}
-use Rattle.text.proofs.Payload.{figures}
+use Rattle.text.proofs.Figures.{figures}
 use Rattle.text.proofs.Words.{mesh_apart}
 
 -- two values of a kind with the same words are one

@@ -1,6 +1,6 @@
 -- How numbers, words and lines are written as bytes.
-use Rattle.std.specs.Prelude.{◌≡◌, ℕ, ◌^◌, ◌<◌, cond, List, [], ◌∷◌, ◌++◌, map, decimal, ◌==◌, ◌≢◌}
-use Rattle.std.specs.List.{AllByRecursion, flat_map}
+use Rattle.std.specs.Prelude.{◌≡◌, ℕ, ◌^◌, ◌<◌, List, [], ◌∷◌, ◌++◌, map, decimal, ◌==◌, ◌≢◌}
+use Rattle.std.specs.List.{AllByRecursion, flat_map, slice_split}
 
 -- a field of a line: a word as it stands, or a number
 pub data Field : Type 0 where
@@ -34,13 +34,8 @@ abbrev pub text : List (List Field) → List ℕ
 text ls = flat_map written ls
 
 -- the parts of a text between the places where b stands
-abbrev pub onto : ℕ → List (List ℕ) → List (List ℕ)
-onto x [] = (x ∷ []) ∷ []
-onto x (w ∷ ws) = (x ∷ w) ∷ ws
-
 abbrev pub parted : ℕ → List ℕ → List (List ℕ)
-parted b [] = [] ∷ []
-parted b (x ∷ xs) = cond (x == b) ([] ∷ parted b xs) (onto x (parted b xs))
+parted b t = slice_split (λ x. x == b) t
 
 -- b does not stand in w
 abbrev pub Free : ℕ → List ℕ → Type 0

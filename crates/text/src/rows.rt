@@ -13,12 +13,24 @@ const MOST_CYCLES: u32 = 65535;
 
 const MOST_WORDS: u32 = 4;
 
+// The next `count` numbers of a line; zeros stand in the places beyond.
+fn numbers<const N: usize>(fields: &mut Fields, count: usize) -> Result<[u32; N], Fault>
+    requires { count ≤ N }
+    ensures { Begins (λ ns. map number (take count ns)) (λ ns. (length ns ≡ N) × Blank count ns) fields.old fields.new result }
+{
+    let mut numbers = [0; N];
+    // By index: after a loop over `&mut numbers[..count]` a proof knows their length, and not what they are.
+    for i in 0..count {
+        numbers[i] = fields.number()?;
+    }
+    Ok(numbers)
+}
+
 // `mesh W H`
 pub fn mesh(mut fields: Fields) -> Result<Shape, Fault>
     ensures { Reads shape_line Any (codes "mesh" ∷ words fields.entry) fields.entry.line result }
 {
-    let width = fields.number()?;
-    let height = fields.number()?;
+    let [width, height] = numbers::<2>(&mut fields, 2)?;
     fields.end()?;
     Ok(Shape::Mesh { width, height })
 }
@@ -56,11 +68,7 @@ pub fn switch(mut fields: Fields) -> Result<SwitchKind, Fault>
 pub fn run(mut fields: Fields) -> Result<Run, Fault>
     ensures { Reads run_line Brief (codes "run" ∷ words fields.entry) fields.entry.line result }
 {
-    let tickets = fields.number()?;
-    let words = fields.number()?;
-    let epoch = fields.number()?;
-    let seed = fields.number()?;
-    let cycles = fields.number()?;
+    let [tickets, words, epoch, seed, cycles] = numbers::<5>(&mut fields, 5)?;
     if cycles > MOST_CYCLES {
         return Err(fields.fault());
     }
@@ -113,32 +121,15 @@ pub fn cable(mut fields: Fields) -> Result<Cable, Fault>
     Ok(Cable { one, other })
 }
 
-// The words of a packet, `count` of them.
-fn payload(fields: &mut Fields, count: usize) -> Result<[u32; 4], Fault>
-    requires { count ≤ 4 }
-    ensures { Begins (λ ns. map number (take count ns)) (λ ns. (length ns ≡ 4) × Blank count ns) fields.old fields.new result }
-{
-    let mut words = [0; 4];
-    // By index: after a loop over `&mut words[..count]` a proof knows the length of `words`, and not what it holds.
-    for i in 0..count {
-        words[i] = fields.number()?;
-    }
-    Ok(words)
-}
-
 // `cycle node own destination count words`, of a packet that is not due before cycle `last`
 pub fn packet(mut fields: Fields, last: u32) -> Result<Packet, Fault>
     ensures { Reads packet_line (λ p. Sized p × (last ≤ p.cycle)) (words fields.entry) fields.entry.line result }
 {
-    let cycle = fields.number()?;
-    let node = fields.number()?;
-    let own = fields.number()?;
-    let destination = fields.number()?;
-    let count = fields.number()?;
+    let [cycle, node, own, destination, count] = numbers::<5>(&mut fields, 5)?;
     if cycle < last || count < 1 || count > MOST_WORDS {
         return Err(fields.fault());
     }
-    let words = payload(&mut fields, count as usize)?;
+    let words = numbers::<4>(&mut fields, count as usize)?;
     fields.end()?;
     Ok(Packet {
         cycle,

@@ -1,5 +1,6 @@
 // A loop of cycles.
 ghost use Rattle.std.specs.Prelude.{List};
+ghost use Rattle.line.specs.Lines.{queue_of, SameLender};
 ghost use Rattle.calls.specs.Networks.{fabric_of, SameParts};
 ghost use Rattle.network.specs.Cycle.{State};
 ghost use Rattle.network.specs.Runs.{Call};
@@ -18,8 +19,9 @@ pub fn run_on<L: Layout, S: Switch>(
     line: &mut Line<Event>,
     cycles: u32,
 )
-    ensures ran { (run : List Call) (s : State) → Follows (fabric_of L.plan S.turn network.old) network.old.inner run s → RanOn (fabric_of L.plan S.turn network.old) network.old.inner network.new.inner cycles run }
+    ensures ran { (run : List Call) (s : State) → Follows (fabric_of L.plan S.turn network.old) network.old.inner run s → RanOn (fabric_of L.plan S.turn network.old) network.old.inner network.new.inner cycles run s (queue_of line.old) (queue_of line.new) }
     ensures parts { SameParts network.old network.new }
+    ensures lender { SameLender line.old line.new }
 {
     for _ in 0..cycles {
         let _ = network.cycle(line);

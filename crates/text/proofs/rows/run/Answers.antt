@@ -1,34 +1,25 @@
-use Rattle.std.proofs.Common.{◌≡◌, [], ◌∷◌, decimal, ap, ◌∙◌, arith}
+use Rattle.std.proofs.Common.{[], ◌∷◌, get_or, refl, sym, ap, ◌∙◌, arith}
 use Rattle.std.proofs.lemmas.Result.{err_from_is_err_and}
 use Rattle.std.proofs.lemmas.Fmt.{decimal_injective}
 use Rattle.text.specs.Faults.{ill_formed}
 use Rattle.text.specs.Lines.{run_line, Brief}
-use Rattle.text.proofs.Exits.{passed, rest_of, after, first_of}
+use Rattle.text.proofs.Exits.{passed, rest_of}
+use Rattle.text.proofs.Figures.{figure_at, blank_at_end}
 use Rattle.text.proofs.rows.run.Goals as goal
 
-pub returns-in_err-words : goal.returns-in_err-words
-returns-in_err-words c =
-    passed run_line Brief _ _ _ _ (err_from_is_err_and _ c.from_residual-in_err-words.ensures.1) (c.in_err-words.ensures.0.0 ∙ ap ill_formed c.in_ok-tickets.ensures.1)
-    (λ x fits p e. c.in_err-words.ensures.0.1 x.words (decimal x.epoch ∷ decimal x.seed ∷ decimal x.cycles ∷ []) (fits.1.1.0, tt) tt (after c.in_ok-tickets.ensures.0.0 (rest_of e)))
-
-pub returns-in_err-epoch : goal.returns-in_err-epoch
-returns-in_err-epoch c =
-    passed run_line Brief _ _ _ _ (err_from_is_err_and _ c.from_residual-in_err-epoch.ensures.1) (c.in_err-epoch.ensures.0.0 ∙ ap ill_formed (c.in_ok-words.ensures.1 ∙ c.in_ok-tickets.ensures.1))
-    (λ x fits p e. c.in_err-epoch.ensures.0.1 x.epoch (decimal x.seed ∷ decimal x.cycles ∷ []) (fits.1.1.1.0, tt) tt (after c.in_ok-words.ensures.0.0 (after c.in_ok-tickets.ensures.0.0 (rest_of e))))
-
-pub returns-in_err-seed : goal.returns-in_err-seed
-returns-in_err-seed c =
-    passed run_line Brief _ _ _ _ (err_from_is_err_and _ c.from_residual-in_err-seed.ensures.1) (c.in_err-seed.ensures.0.0 ∙ ap ill_formed (c.in_ok-epoch.ensures.1 ∙ c.in_ok-words.ensures.1 ∙ c.in_ok-tickets.ensures.1))
-    (λ x fits p e. c.in_err-seed.ensures.0.1 x.seed (decimal x.cycles ∷ []) (fits.1.1.1.1.0, tt) tt (after c.in_ok-epoch.ensures.0.0 (after c.in_ok-words.ensures.0.0 (after c.in_ok-tickets.ensures.0.0 (rest_of e)))))
-
-pub returns-in_err-cycles : goal.returns-in_err-cycles
-returns-in_err-cycles c =
-    passed run_line Brief _ _ _ _ (err_from_is_err_and _ c.from_residual-in_err-cycles.ensures.1) (c.in_err-cycles.ensures.0.0 ∙ ap ill_formed (c.in_ok-seed.ensures.1 ∙ c.in_ok-epoch.ensures.1 ∙ c.in_ok-words.ensures.1 ∙ c.in_ok-tickets.ensures.1))
-    (λ x fits p e. c.in_err-cycles.ensures.0.1 x.cycles [] (fits.1.1.1.1.1.0, tt) tt (after c.in_ok-seed.ensures.0.0 (after c.in_ok-epoch.ensures.0.0 (after c.in_ok-words.ensures.0.0 (after c.in_ok-tickets.ensures.0.0 (rest_of e))))))
+pub returns-in_err-tickets : goal.returns-in_err-tickets
+returns-in_err-tickets c =
+    passed run_line Brief _ _ _ _ (err_from_is_err_and _ c.from_residual.ensures.1) c.in_err-tickets.ensures.0.0
+    (λ x fits p e.
+    let ns = x.tickets ∷ x.words ∷ x.epoch ∷ x.seed ∷ x.cycles ∷ [] in
+    c.in_err-tickets.ensures.0.1 ns [] fits.1 (refl, blank_at_end ns) (rest_of e))
 
 -- the last number is read, and too large
 pub returns-then-cycles-gt-MOST_CYCLES : goal.returns-then-cycles-gt-MOST_CYCLES
-returns-then-cycles-gt-MOST_CYCLES c = (
-  c.fault.ensures ∙ ap ill_formed (c.in_ok-cycles.ensures.1 ∙ c.in_ok-seed.ensures.1 ∙ c.in_ok-epoch.ensures.1 ∙ c.in_ok-words.ensures.1 ∙ c.in_ok-tickets.ensures.1),
-  λ x fits p e. let same : c.in_ok-cycles.cycles ≡ x.cycles = decimal_injective _ _ (omega (arith, c.in_ok-cycles.ensures.0.1.0)) (omega arith) (first_of c.in_ok-cycles.ensures.0.0 (after c.in_ok-seed.ensures.0.0 (after c.in_ok-epoch.ensures.0.0 (after c.in_ok-words.ensures.0.0 (after c.in_ok-tickets.ensures.0.0 (rest_of e)))))) in omega arith,
-)
+returns-then-cycles-gt-MOST_CYCLES c =
+    let read = c.in_ok-tickets.ensures.0 in (
+      c.fault.ensures ∙ ap ill_formed c.in_ok-tickets.ensures.1,
+      λ x fits p e.
+          let same = decimal_injective _ _ (omega arith) (omega (arith, fits.1.1.1.1.1.0)) (sym (figure_at c.in_ok-tickets.field-0 5 4 _ (omega arith) (omega (arith, read.2.0))) ∙ ap (λ ws. get_or ws 4 []) (sym read.0 ∙ rest_of e)) in
+          omega arith,
+    )

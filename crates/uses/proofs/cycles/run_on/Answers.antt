@@ -1,14 +1,17 @@
-use Rattle.std.proofs.Common.{[], ◌∷◌, refl, ◌∙◌, subst, subst₂, arith}
+use Rattle.std.proofs.Common.{ℕ, ◌∷◌, refl, ◌∙◌, subst, subst₂}
+use Rattle.std.proofs.Math.Numerals.{suc-eq-add-one}
 use Rattle.fabric.specs.Refusals.{shown}
 use Rattle.bounds.specs.declared.settings.Settings.{Settings}
 use Rattle.line.specs.Lines.{queue_of}
 use Rattle.calls.specs.Networks.{fabric_of}
+use Rattle.network.specs.Runs.{Serves}
 use Rattle.network.specs.Runs.Call.{cycle}
 use Rattle.network.specs.Runs.Outcome.{cycling}
 use Rattle.network.specs.Promises.{Kept}
 use Rattle.network.proofs.Kept.{kept}
 use Rattle.calls.specs.Follow.{Promised}
-use Rattle.uses.specs.History.{RanOn, cycles_after}
+use Rattle.uses.specs.History.{Cycled, RanOn}
+use Rattle.uses.specs.History.Cycled.{none, one_more}
 use Rattle.uses.proofs.cycles.run_on.Goals as goal
 
 pub loop-init : goal.loop-init
@@ -16,10 +19,11 @@ loop-init g c =
     let n = c.args.network.now in
     let F = fabric_of g.L.Layout.plan g.S.Switch.turn n in (
       (refl, refl),
+      refl,
       λ run s f. record {
-        lines = [];
-        count = refl;
+        longer = run;
         state = s;
+        cycled = none;
         same = refl;
         follows = f;
         kept = (kept F n.inner.settings (g.met.L.Layout.lawful n.layout) (g.met.S.Switch.lawful n.switch) f.lawful run).kept s f.leads;
@@ -32,21 +36,26 @@ loop-preserved g c =
     let F = fabric_of g.L.Layout.plan g.S.Switch.turn n in
     let i = c.loop.invariant in
     let e = c.cycle.ensures in
-    let q = queue_of c.loop.line in
+    let q = queue_of c.args.line.now in
+    let u = queue_of c.loop.line in
+    let v = queue_of c.cycle.new.line in
+    let a = shown c.cycle.result in
     let promise = subst₂ (λ (x : g.row.L.Denot) (y : g.row.S.Denot).
-    Promised (record { plan = g.L.Layout.plan x; turn = g.S.Switch.turn y }) c.loop.network.inner c.cycle.new.self.inner (cycle q)
-    (cycling (shown c.cycle.result) (queue_of c.cycle.new.line))) i.0.0 i.0.1 e.promised in (
+    Promised (record { plan = g.L.Layout.plan x; turn = g.S.Switch.turn y }) c.loop.network.inner c.cycle.new.self.inner (cycle u) (cycling a v)) i.0.0 i.0.1 e.promised in (
       (e.parts.0 ∙ i.0.0, e.parts.1 ∙ i.0.1),
+      e.lender ∙ i.1,
       λ run s f.
-          let h : RanOn F n.inner c.loop.network.inner c.loop.counter run = i.1 run s f in
-          let more = promise.continues (cycles_after run h.lines) h.state h.follows in
+          let h : RanOn F n.inner c.loop.network.inner c.loop.counter run s q u = i.2 run s f in
+          let more = promise.continues h.longer h.state h.follows in
+          let longer = cycle u ∷ h.longer in
           let same = more.same ∙ h.same in
+          let serves = subst (λ (P : Settings). Serves F P h.state (cycle u) (cycling a v) more.state) h.same more.serves in
           record {
-            lines = q ∷ h.lines;
-            count = let e = h.count in omega arith;
+            longer = longer;
             state = more.state;
+            cycled = subst (λ (m : ℕ). Cycled F n.inner.settings run s q m longer more.state v) (suc-eq-add-one c.loop.counter) (one_more h.cycled serves);
             same = same;
             follows = more.follows;
-            kept = subst (λ (P : Settings). Kept F P (cycle q ∷ cycles_after run h.lines) more.state) same more.kept;
+            kept = subst (λ (P : Settings). Kept F P longer more.state) same more.kept;
           },
     )

@@ -1,4 +1,5 @@
 use Rattle.std.proofs.Common.{List}
+use Rattle.line.specs.Lines.{queue_of, SameLender}
 use Rattle.network.specs.Cycle.{State}
 use Rattle.network.specs.Runs.{Call}
 use Rattle.calls.specs.Follow.{Follows}
@@ -9,6 +10,7 @@ use Rattle.uses.proofs.cycles.run_on.Given as goal
 abbrev pub invariant-loop : goal.invariant-loop
 invariant-loop g l =
     SameParts l.initial.network l.network
+    × SameLender l.initial.line l.line
     × ((run : List Call) (s : State) →
     Follows (fabric_of g.L.Layout.plan g.S.Switch.turn l.initial.network) l.initial.network.inner run s →
-    RanOn (fabric_of g.L.Layout.plan g.S.Switch.turn l.initial.network) l.initial.network.inner l.network.inner l.counter run)
+    RanOn (fabric_of g.L.Layout.plan g.S.Switch.turn l.initial.network) l.initial.network.inner l.network.inner l.counter run s (queue_of l.initial.line) (queue_of l.line))

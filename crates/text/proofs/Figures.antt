@@ -1,13 +1,12 @@
--- Numbers that stand one after another, and the numbers before a packet's words.
+-- Numbers that stand one after another in a line, and those of a packet's line.
 use Rattle.std.proofs.Common.{◌≡◌, ℕ, ◌+◌, ◌^◌, ◌<◌, ◌≤◌, List, [], ◌∷◌, ◌++◌, map, length, get_or, take, drop, decimal, sym, ap, ◌∙◌, subst, arith}
 use Rattle.std.specs.List.{AllByRecursion}
-use Rattle.std.proofs.lemmas.List.{append-nil, length-append, length-map, length-take-le, get_or_append_left, get_or-map, get_or-take, drop_at, drop_more, nil_from_length}
+use Rattle.std.proofs.lemmas.List.{append-nil, get_or_past, length-append, length-map, length-take-le, get_or_append_left, get_or-map, get_or-take, drop_at, drop_more, nil_from_length}
 use Rattle.std.proofs.ByRecursion.{All-get_or}
 use Rattle.std.proofs.lemmas.Fmt.{decimal_injective}
 use Rattle.text.specs.Texts.{Fits, number, shown}
-use Rattle.text.specs.Lines.{packet_line}
+use Rattle.text.specs.Lines.{packet_line, Blank}
 use Rattle.text.specs.declared.parts.Packet.{Packet}
-use Rattle.text.proofs.Exits.{after, first_of}
 
 -- the numbers as words
 abbrev pub figures : List ℕ → List (List ℕ)
@@ -21,6 +20,16 @@ getD_figures ns i l =
     get_or-map shown (map number ns) i (number 0) [] (subst (λ n. i < n) (sym (length-map ns number)) l)
     ∙ ap shown (get_or-map number ns i 0 (number 0) l)
 
+-- of k numbers and more words the word at i
+pub figure_at : (ns : List ℕ) (k i : ℕ) (more : List (List ℕ)) → i < k → k ≤ length ns → get_or (figures (take k ns) ++ more) i [] ≡ decimal (get_or ns i 0)
+figure_at ns k i more l m =
+    let b : length (figures (take k ns)) ≡ k = length_figures (take k ns) ∙ length-take-le k ns m in
+    get_or_append_left (figures (take k ns)) more [] i (omega arith) ∙ getD_figures (take k ns) i (omega (arith, length-take-le k ns m)) ∙ ap decimal (get_or-take k ns i 0 l)
+
+-- there are zeros from the end of a list on
+pub blank_at_end : (ns : List ℕ) → Blank (length ns) ns
+blank_at_end ns j l = get_or_past ns j 0 l
+
 -- i numbers were read, and what follows is the one that stands at i
 pub figures_next : (xs ns : List ℕ) (k i : ℕ) (rest more : List (List ℕ)) → i < k → k ≤ length xs → i ≤ length ns →
     figures (take i ns) ++ rest ≡ figures (take k xs) ++ more → rest ≡ decimal (get_or xs i 0) ∷ drop (i + 1) (figures (take k xs) ++ more)
@@ -32,7 +41,7 @@ figures_next xs ns k i rest more l m n e =
     ∙ ap (drop i) e
     ∙ drop_more (figures (take k xs) ++ more) i [] (omega (arith, length-append (figures (take k xs)) more))
     ∙ ap (λ h. h ∷ drop (i + 1) (figures (take k xs) ++ more))
-    (get_or_append_left (figures (take k xs)) more [] i inside ∙ getD_figures (take k xs) i (omega (arith, length-take-le k xs m)) ∙ ap decimal (get_or-take k xs i 0 l))
+    (figure_at xs k i more l m)
 
 pub fits_at : (xs : List ℕ) (k i : ℕ) → i < k → k ≤ length xs → AllByRecursion Fits (map number (take k xs)) → get_or xs i 0 < 2 ^ 32
 fits_at xs k i l m a =
@@ -50,10 +59,13 @@ figures_end xs ns k ws rest l m h e =
     let b : length (figures (take k xs)) ≡ k = length_figures (take k xs) ∙ length-take-le k xs l in
     nil_from_length rest (omega (arith, length-append (figures (take k ns)) rest, ap length h, ap length e))
 
--- the numbers before a packet's words, each followed by what was left
-pub same_front : (ws w₁ w₂ w₃ w₄ rest : List (List ℕ)) (a b c d n : ℕ) (x : Packet) → ws ≡ decimal a ∷ w₁ → w₁ ≡ decimal b ∷ w₂ → w₂ ≡ decimal c ∷ w₃ → w₃ ≡ decimal d ∷ w₄ → w₄ ≡ decimal n ∷ rest →
-    a < 2 ^ 32 → n < 2 ^ 32 → AllByRecursion Fits (packet_line x) → ws ≡ map shown (packet_line x) → (a ≡ x.cycle) × (n ≡ x.count) × (rest ≡ figures (take n x.words))
-same_front ws w₁ w₂ w₃ w₄ rest a b c d n x h₁ h₂ h₃ h₄ h₅ la ln f e =
-    let last = after h₄ (after h₃ (after h₂ (after h₁ e))) in
-    let m : n ≡ x.count = decimal_injective n x.count (omega arith) (omega (arith, f.1.1.1.1.0)) (first_of h₅ last) in
-    (decimal_injective a x.cycle (omega arith) (omega (arith, f.0)) (first_of h₁ e), m, after h₅ last ∙ ap (λ k. figures (take k x.words)) (sym m))
+-- the numbers before a packet's words, and what was left behind them
+pub same_front : (ws rest : List (List ℕ)) (ns : List ℕ) (x : Packet) → length ns ≡ 5 → ws ≡ figures (take 5 ns) ++ rest → AllByRecursion Fits (map number (take 5 ns)) →
+    AllByRecursion Fits (packet_line x) → ws ≡ map shown (packet_line x) → (get_or ns 0 0 ≡ x.cycle) × (get_or ns 4 0 ≡ x.count) × (rest ≡ figures (take (get_or ns 4 0) x.words))
+same_front ws rest ns x five h g f e =
+    let l : 5 ≤ length ns = omega arith in
+    let at : (i : ℕ) → i < 5 → decimal (get_or ns i 0) ≡ get_or (map shown (packet_line x)) i [] = λ i k. sym (figure_at ns 5 i rest k l) ∙ ap (λ v. get_or v i []) (sym h ∙ e) in
+    let c : get_or ns 0 0 ≡ x.cycle = decimal_injective _ _ (omega (arith, fits_at ns 5 0 (omega arith) l g)) (omega (arith, f.0)) (at 0 (omega arith)) in
+    let n : get_or ns 4 0 ≡ x.count = decimal_injective _ _ (omega (arith, fits_at ns 5 4 (omega arith) l g)) (omega (arith, f.1.1.1.1.0)) (at 4 (omega arith)) in
+    let more = sym (drop_at (figures (take 5 ns)) rest 5 (length_figures (take 5 ns) ∙ length-take-le 5 ns l)) ∙ ap (drop 5) (sym h ∙ e) in
+    (c, n, more ∙ ap (λ k. figures (take k x.words)) (sym n))
