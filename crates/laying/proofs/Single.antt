@@ -1,5 +1,5 @@
--- A layout's lines are answered in one way: the cables fix the plan.
-use Rattle.std.proofs.Common.{◌≡◌, ℕ, ◌+◌, ◌*◌, ◌<◌, ◌≤◌, Bool, true, false, cond, ◌||◌, eqb, ltb, ◌⊎◌, List, [], ◌∷◌, length, Some, None, Option, sym, refl, ap, ◌∙◌, subst, inl, inr, ⊎_elim, arith}
+-- The lines of a layout and its settings have one report, and a plan that it answers is lawful.
+use Rattle.std.proofs.Common.{◌≡◌, ℕ, ◌*◌, ◌<◌, ◌≤◌, Bool, true, false, cond, ◌||◌, eqb, ltb, ◌⊎◌, List, [], ◌∷◌, length, Some, None, Option, sym, refl, ap, ◌∙◌, subst, inl, inr, ⊎_elim, arith}
 use Rattle.std.proofs.lemmas.Bool.{cases_eq, cases_lt}
 use Rattle.std.proofs.lemmas.Bool.Decides.{nat_tests}
 use Rattle.fabric.specs.declared.parts.Cable.{Cable}
@@ -22,8 +22,8 @@ use Rattle.laying.specs.Reports.Report.{answers, faults}
 use Rattle.laying.specs.Layings.{Laid, Judged, settings_of, settled, layout_line}
 use Rattle.laying.proofs.Laying.{slot_number, same_slot, same_port}
 
--- two plans of one list of cables
-module _ (k : ℕ) (cs : List Cable) (p q : Plan) (a : Means k cs p) (b : Means k cs q) (law : Lawful p) (law' : Lawful q) where
+-- two plans of one list of cables: distances are fewest cables, and the rest follows
+module _ {k : ℕ} {cs : List Cable} {p q : Plan} (a : Means k cs p) (b : Means k cs q) (law : Lawful p) (law' : Lawful q) where
   same_far : (n : ℕ) (s : Port) → p.far n s ≡ q.far n s
   same_far n s =
       let t : Slot = record { node = n; port = s } in
@@ -42,9 +42,7 @@ module _ (k : ℕ) (cs : List Cable) (p q : Plan) (a : Means k cs p) (b : Means 
   same_of f x h h' same m n = ⊎_elim (λ l. ⊎_elim (λ i. same m n l i) (λ i. out (inr i)) (cases_lt n k)) (λ l. out (inl l)) (cases_lt m k)
     where
       out : (k ≤ m) ⊎ (k ≤ n) → f p m n ≡ f q m n
-      out o =
-          h m n (⊎_elim (λ l. inl (omega (arith, a.nodes))) (λ l. inr (omega (arith, a.nodes))) o)
-          ∙ sym (h' m n (⊎_elim (λ l. inl (omega (arith, b.nodes))) (λ l. inr (omega (arith, b.nodes))) o))
+      out o = h m n (subst (λ j. (j ≤ m) ⊎ (j ≤ n)) (sym a.nodes) o) ∙ sym (h' m n (subst (λ j. (j ≤ m) ⊎ (j ≤ n)) (sym b.nodes) o))
 
   same_distance : (m n : ℕ) → p.distance m n ≡ q.distance m n
   same_distance =
@@ -64,42 +62,44 @@ module _ (k : ℕ) (cs : List Cable) (p q : Plan) (a : Means k cs p) (b : Means 
         omega (arith, h.1, ap (λ (s : Slot). p.distance s.node n) e, same_distance (q.far m w).node n, same_distance m n),
       )
 
-module _ (k : ℕ) (cs : List Cable) (p q : Plan) (a : Means k cs p) (b : Means k cs q) (law : Lawful p) (law' : Lawful q) where
+module _ {k : ℕ} {cs : List Cable} {p q : Plan} (a : Means k cs p) (b : Means k cs q) (law : Lawful p) (law' : Lawful q) where
   wished : (m n : ℕ) (o o' : Option Port) → Wished p m n o → Wished q m n o' → o ≡ o'
   wished m n (Some w) (Some v) h h' =
       ap Some
       (same_port w v
       (omega (
         arith,
-        ⊎_elim (λ l. absurd (h'.1 w l (same_leads k cs p q a b law law' m n w h.0))) (λ l. l) (cases_lt (rank w) (rank v)),
-        ⊎_elim (λ l. absurd (h.1 v l (same_leads k cs q p b a law' law m n v h'.0))) (λ l. l) (cases_lt (rank v) (rank w)),
+        ⊎_elim (λ l. absurd (h'.1 w l (same_leads a b law law' m n w h.0))) (λ l. l) (cases_lt (rank w) (rank v)),
+        ⊎_elim (λ l. absurd (h.1 v l (same_leads b a law' law m n v h'.0))) (λ l. l) (cases_lt (rank v) (rank w)),
       )))
-  wished m n (Some w) None h h' = absurd (omega (arith, h.0.1, same_distance k cs p q a b law law' m n, h'))
-  wished m n None (Some v) h h' = absurd (omega (arith, h, h'.0.1, same_distance k cs p q a b law law' m n))
+  wished m n (Some w) None h h' = absurd (omega (arith, h.0.1, same_distance a b law law' m n, h'))
+  wished m n None (Some v) h h' = absurd (omega (arith, h, h'.0.1, same_distance a b law law' m n))
   wished m n None None h h' = refl
 
   same_wish : (m n : ℕ) → p.wish m n ≡ q.wish m n
   same_wish =
-      same_of k cs p q a b law law' (λ r. r.wish) None law.missing_wish law'.missing_wish
+      same_of a b law law' (λ r. r.wish) None law.missing_wish law'.missing_wish
       (λ m n l i. wished m n (p.wish m n) (q.wish m n) (a.wish m n l i) (b.wish m n l i))
 
   same_plan : p ≡ q
   same_plan = λ i. record {
     nodes = (a.nodes ∙ sym b.nodes) i;
-    far = λ n s. same_far k cs p q a b law law' n s i;
-    distance = λ m n. same_distance k cs p q a b law law' m n i;
+    far = λ n s. same_far a b law law' n s i;
+    distance = λ m n. same_distance a b law law' m n i;
     wish = λ m n. same_wish m n i;
-    reach = same_reach k cs p q a b law law' i;
+    reach = same_reach a b law law' i;
   }
 
--- the first cable that is not good is one
 module _ (k : ℕ) (cs : List Cable) where
+  -- the first cable that is not good is one
   not_before : (i j : ℕ) → AllGood k cs j → (Good k cs i → ⊥) → j ≤ i
   not_before i j g h = ⊎_elim (λ l. absurd (h (g i l))) (λ l. l) (cases_lt i j)
 
+  -- what the layout's lines are answered, by the plan and the verdict
   abbrev report : Plan → Verdict Unit → Report Plan
   report p v = by_layer Layout layout_line (granting (λ _. p) v)
 
+  -- no two kinds of verdict hold of one list
   one_cabling : {p q : Plan} {v u : Verdict Unit} → Lawful p → Lawful q → Cabling (λ r. r) k cs lone p v → Cabling (λ r. r) k cs lone q u → report p v ≡ report q u
   one_cabling l m (unfair h) (unfair h') = refl
   one_cabling l m (unfair h) (bad f' i' l' g' h') = absurd (h f')
@@ -118,21 +118,23 @@ module _ (k : ℕ) (cs : List Cable) where
   one_cabling l m (cabled f g h p) (unfair h') = absurd (h' f)
   one_cabling l m (cabled f g h p) (bad f' i' b' g' h') = absurd (h' (g i' b'))
   one_cabling l m (cabled f g h p) (unreached f' g' n' b' h') = absurd (h n' b' h')
-  one_cabling {p} {q} l m (cabled f g h a) (cabled f' g' h' b) = ap answers (same_plan k cs p q a b l m)
+  one_cabling {p} {q} l m (cabled f g h a) (cabled f' g' h' b) = ap answers (same_plan a b l m)
 
 -- the layout's lines have one report
 pub one_layout : (x : Shape) (cs : List Cable) (r s : Report Plan) → Laid x cs r → Laid x cs s → r ≡ s
 one_layout (Mesh w h) cs r s a b = a ∙ sym b
 one_layout (Cabled k) cs r s (p, l, v, a, e) (q, m, u, b, f) = e ∙ one_cabling k cs l m a b ∙ sym f
 
+-- and so have those of the settings
 pub one_judgement : (x : Shape) (cs : List Cable) (run : Run) (r s : Report Plan) → Judged x cs run r → Judged x cs run s → r ≡ s
 one_judgement x cs run r s a b = a.2 ∙ ap (λ l. then l (settled run)) (one_layout x cs a.0 b.0 a.1 b.1) ∙ sym b.2
 
--- a plan that is answered is lawful
+-- the plan that is answered
 abbrev plan_in : Report Plan → Plan
 plan_in (answers p) = p
 plan_in (faults x) = lone
 
+-- is lawful
 mesh_law : (w h : ℕ) (p : Plan) → answers p ≡ by_layer Layout layout_line (mesh_verdict w h) → Lawful p
 mesh_law w h p = go (eqb w 0 || eqb h 0 || ltb 64 (w * h)) refl
   where

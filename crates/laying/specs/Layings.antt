@@ -17,7 +17,7 @@ use Rattle.laying.specs.Reports.{Report, by_layer, then}
 abbrev pub layout_line : ℕ → List ℕ → ℕ
 layout_line k named = cond (k == 13) (5 + slice_index named 0) (cond (k == 14) 4 1)
 
--- what the layout's lines are answered; which node a 14 names is free
+-- what the layout's lines are answered; which node a 14 names is free, and the laws say what the plan says of missing nodes
 abbrev pub Laid : Shape → List Cable → Report Plan → Type 0
 Laid (Mesh w h) cs r = r ≡ by_layer Layout layout_line (mesh_verdict w h)
 Laid (Cabled n) cs r = (p : Plan) × Lawful p × (v : Verdict Unit) × Cabling (λ q. q) n cs lone p v × (r ≡ by_layer Layout layout_line (granting (λ _. p) v))

@@ -1,4 +1,4 @@
--- A text has one listing: each part of a run is computed from the state before it, and so is the listing; and a text is that of one sheet, or has one fault.
+-- A text has one listing: it is that of one sheet or has one fault, and each part of a run, and so its listing, is computed from the state before it.
 use Rattle.std.proofs.Common.{◌≡◌, ℕ, zero, suc, ◌<◌, cond, eqb, List, [], ◌∷◌, ◌++◌, map, take, sym, refl, ap, ◌∙◌, subst, ap₂, inl, inr, append-nil, add-one, arith}
 use mathlib.Core.List.{append_cancel_right}
 use Rattle.std.specs.List.{AllByRecursion}
@@ -185,10 +185,11 @@ module _ (F : Fabric) (P : Settings) where
 one_run : (F : Fabric) (P : Settings) → Lawful F.plan → (ps : List Packet) (cycles : ℕ) (bs bs' : List ℕ) → Lists F P ps cycles bs → Lists F P ps cycles bs' → bs ≡ bs'
 one_run F P law ps cycles bs bs' l l' = listing_is F P law l ∙ sym (listing_is F P law l')
 
--- and so has a sheet
+-- the sheet is answered so, but for its packets
 abbrev Judges : Said → Report Plan → Type 0
 Judges s r = Judged s.shape s.cables s.run r
 
+-- and so has a sheet
 one_answer : (s : Said) (r : Report Plan) (bs bs' : List ℕ) → Judges s r → ListsSheet s r bs → ListsSheet s r bs' → bs ≡ bs'
 one_answer s (answers p) bs bs' j l l' = one_run (network_of p s) (settings_of s.run) (judged_law s.shape s.cables s.run p j) s.packets s.run.cycles bs bs' l l'
 one_answer s (faults x) bs bs' j l l' = l ∙ sym l'

@@ -1,9 +1,9 @@
 -- A text is that of one sheet at most, or has one fault.
-use Rattle.std.proofs.Common.{◌≡◌, ℕ, ◌^◌, List, [], ◌∷◌, ◌++◌, map, length, get_or, take, drop, sym, refl, ap, ◌∙◌, ap₂}
+use Rattle.std.proofs.Common.{◌≡◌, ℕ, ◌^◌, List, [], ◌∷◌, ◌++◌, map, length, get_or, take, drop, sym, ap, ◌∙◌, ap₂}
 use Rattle.std.specs.List.{AllByRecursion}
 use Rattle.std.proofs.lemmas.List.{map-append, length-map, take_at, drop_at}
 use Rattle.text.specs.Texts.{Field, Fits, shown, Any}
-use Rattle.text.specs.Lines.{cables_line, cable_line, packets_line, packet_line, Sized}
+use Rattle.text.specs.Lines.{cable_line, packets_line, packet_line, Sized}
 use Rattle.text.proofs.Single.{same_text, one_fault, no_fault}
 use Rattle.text.proofs.Values.{tell_shape, tell_kind, tell_run, tell_cables, tell_cable, tell_packet, tell_all}
 use Rattle.runsheet.specs.Said.{Said}

@@ -37,7 +37,7 @@ SheetText bs s = (length bs ≤ 65536) × Formed 128 256 s × (bs ≡ text (line
 abbrev pub Refused : List ℕ → Fault → Type 0
 Refused bs f = Faulty lines (Formed 128 256) (Formed (2 ^ 32) (2 ^ 32)) bs f
 
--- the bytes are the text of one sheet at most, and then they have no fault; and else one fault
+-- the bytes are the text of at most one sheet, and have at most one fault, and never both
 pub record OneSheet (bs : List ℕ) : Type 0 where
   pub sheet : (s t : Said) → SheetText bs s → SheetText bs t → s ≡ t
   pub none : (s : Said) (f : Fault) → SheetText bs s → Refused bs f → ⊥

@@ -1,19 +1,15 @@
 -- What a line says can be told from its words.
-use Rattle.std.proofs.Common.{◌≡◌, ℕ, ◌^◌, ◌<◌, ◌≤◌, cond, eqb, List, [], ◌∷◌, map, length, get_or, drop, decimal, sym, refl, ap, ◌∙◌, ap₂, ⊎_elim, arith}
+use Rattle.std.proofs.Common.{◌≡◌, ℕ, ◌^◌, ◌<◌, cond, eqb, List, [], ◌∷◌, map, length, get_or, drop, decimal, sym, refl, ap, ◌∙◌, ap₂, ⊎_elim, arith}
 use Rattle.std.specs.List.{AllByRecursion}
 use Rattle.std.proofs.lemmas.Bool.{cases_lt}
 use Rattle.std.proofs.lemmas.Fmt.{decimal_injective}
 use Rattle.std.proofs.lemmas.List.{ext_get_or, get_or-take}
 use Rattle.fabric.specs.Ports.{letter}
-use Rattle.fabric.specs.declared.parts.Cable.{Cable}
 use Rattle.fabric.specs.declared.parts.Port.{Port}
 use Rattle.fabric.specs.declared.parts.Port.TheVariants.{N, E, S, W}
 use Rattle.fabric.specs.declared.parts.Slot.{Slot}
 use Rattle.text.specs.Texts.{Field, number, shown, Fits, Any}
 use Rattle.text.specs.Lines.{shape_line, kind_word, kind_line, run_line, cables_line, cable_line, payload, packet_line, Sized}
-use Rattle.text.specs.declared.parts.Packet.{Packet}
-use Rattle.text.specs.declared.parts.Run.{Run}
-use Rattle.text.specs.declared.parts.Shape.{Shape}
 use Rattle.text.specs.declared.parts.Shape.TheVariants.{Mesh, Cabled}
 use Rattle.text.specs.declared.parts.SwitchKind.{SwitchKind}
 use Rattle.text.specs.declared.parts.SwitchKind.TheVariants.{Chipper, Bless}
@@ -27,9 +23,9 @@ Telling {X} line P = (x y : X) → AllByRecursion Fits (line x) → AllByRecursi
 abbrev at : ℕ → List (List ℕ) → List ℕ
 at i ws = get_or ws i []
 
--- the number at a place of both
-same : (i m n : ℕ) (ws vs : List (List ℕ)) → m < 2 ^ 32 → n < 2 ^ 32 → at i ws ≡ decimal m → at i vs ≡ decimal n → ws ≡ vs → m ≡ n
-same i m n ws vs h k a b e = decimal_injective m n (omega arith) (omega arith) (sym a ∙ ap (at i) e ∙ b)
+-- the number at one place of both
+number_at : (i m n : ℕ) (ws vs : List (List ℕ)) → m < 2 ^ 32 → n < 2 ^ 32 → at i ws ≡ decimal m → at i vs ≡ decimal n → ws ≡ vs → m ≡ n
+number_at i m n ws vs h k a b e = decimal_injective m n (omega arith) (omega arith) (sym a ∙ ap (at i) e ∙ b)
 
 abbrev port_of : List ℕ → Port
 port_of w = let x = get_or w 0 0 in cond (eqb x 78) N (cond (eqb x 69) E (cond (eqb x 83) S W))
@@ -51,33 +47,33 @@ kind_letter Chipper = refl
 kind_letter Bless = refl
 
 pub tell_shape : Telling shape_line Any
-tell_shape (Mesh w h) (Mesh v i) f g a b e = ap₂ Mesh (same 1 w v _ _ f.1.0 g.1.0 refl refl e) (same 2 h i _ _ f.1.1.0 g.1.1.0 refl refl e)
+tell_shape (Mesh w h) (Mesh v i) f g a b e = ap₂ Mesh (number_at 1 w v _ _ f.1.0 g.1.0 refl refl e) (number_at 2 h i _ _ f.1.1.0 g.1.1.0 refl refl e)
 tell_shape (Mesh w h) (Cabled n) f g a b e = absurd (mesh_apart _ _ e)
 tell_shape (Cabled m) (Mesh v i) f g a b e = absurd (mesh_apart _ _ (sym e))
-tell_shape (Cabled m) (Cabled n) f g a b e = ap Cabled (same 1 m n _ _ f.1.0 g.1.0 refl refl e)
+tell_shape (Cabled m) (Cabled n) f g a b e = ap Cabled (number_at 1 m n _ _ f.1.0 g.1.0 refl refl e)
 
 pub tell_kind : Telling kind_line Any
 tell_kind x y f g a b e = sym (kind_letter x) ∙ ap (λ ws. kind_of (at 1 ws)) e ∙ kind_letter y
 
 pub tell_run : Telling run_line Any
 tell_run x y f g a b e = λ i. record {
-  tickets = same 1 x.tickets y.tickets _ _ f.1.0 g.1.0 refl refl e i;
-  words = same 2 x.words y.words _ _ f.1.1.0 g.1.1.0 refl refl e i;
-  epoch = same 3 x.epoch y.epoch _ _ f.1.1.1.0 g.1.1.1.0 refl refl e i;
-  seed = same 4 x.seed y.seed _ _ f.1.1.1.1.0 g.1.1.1.1.0 refl refl e i;
-  cycles = same 5 x.cycles y.cycles _ _ f.1.1.1.1.1.0 g.1.1.1.1.1.0 refl refl e i;
+  tickets = number_at 1 x.tickets y.tickets _ _ f.1.0 g.1.0 refl refl e i;
+  words = number_at 2 x.words y.words _ _ f.1.1.0 g.1.1.0 refl refl e i;
+  epoch = number_at 3 x.epoch y.epoch _ _ f.1.1.1.0 g.1.1.1.0 refl refl e i;
+  seed = number_at 4 x.seed y.seed _ _ f.1.1.1.1.0 g.1.1.1.1.0 refl refl e i;
+  cycles = number_at 5 x.cycles y.cycles _ _ f.1.1.1.1.1.0 g.1.1.1.1.1.0 refl refl e i;
 }
 
 pub tell_cables : Telling cables_line Any
-tell_cables m n f g a b e = same 1 m n _ _ f.1.0 g.1.0 refl refl e
+tell_cables m n f g a b e = number_at 1 m n _ _ f.1.0 g.1.0 refl refl e
 
 same_slot : (s t : Slot) → s.node ≡ t.node → letter s.port ≡ letter t.port → s ≡ t
 same_slot s t n p = λ j. record { node = n j; port = same_port s.port t.port p j }
 
 pub tell_cable : Telling cable_line Any
 tell_cable x y f g a b e = λ i. record {
-  one = same_slot x.one y.one (same 0 x.one.node y.one.node _ _ f.0 g.0 refl refl e) (ap (at 1) e) i;
-  other = same_slot x.other y.other (same 2 x.other.node y.other.node _ _ f.1.1.0 g.1.1.0 refl refl e) (ap (at 3) e) i;
+  one = same_slot x.one y.one (number_at 0 x.one.node y.one.node _ _ f.0 g.0 refl refl e) (ap (at 1) e) i;
+  other = same_slot x.other y.other (number_at 2 x.other.node y.other.node _ _ f.1.1.0 g.1.1.0 refl refl e) (ap (at 3) e) i;
 }
 
 same_figures : (xs ys : List ℕ) → AllByRecursion Fits (map number xs) → AllByRecursion Fits (map number ys) → figures xs ≡ figures ys → xs ≡ ys
@@ -85,20 +81,20 @@ same_figures [] [] f g e = refl
 same_figures [] (y ∷ ys) f g e = absurd (let z : ⊥ = omega (arith, ap length e) in z)
 same_figures (x ∷ xs) [] f g e = absurd (let z : ⊥ = omega (arith, ap length e) in z)
 same_figures (x ∷ xs) (y ∷ ys) f g e =
-    ap₂ (λ (n : ℕ) (ns : List ℕ). n ∷ ns) (same 0 x y _ _ f.0 g.0 refl refl e) (same_figures xs ys f.1 g.1 (ap (drop 1) e))
+    ap₂ (λ (n : ℕ) (ns : List ℕ). n ∷ ns) (number_at 0 x y _ _ f.0 g.0 refl refl e) (same_figures xs ys f.1 g.1 (ap (drop 1) e))
 
 pub tell_packet : Telling packet_line Sized
 tell_packet x y f g a b e = λ i. record {
-  cycle = same 0 x.cycle y.cycle _ _ f.0 g.0 refl refl e i;
-  node = same 1 x.node y.node _ _ f.1.0 g.1.0 refl refl e i;
-  own = same 2 x.own y.own _ _ f.1.1.0 g.1.1.0 refl refl e i;
-  destination = same 3 x.destination y.destination _ _ f.1.1.1.0 g.1.1.1.0 refl refl e i;
+  cycle = number_at 0 x.cycle y.cycle _ _ f.0 g.0 refl refl e i;
+  node = number_at 1 x.node y.node _ _ f.1.0 g.1.0 refl refl e i;
+  own = number_at 2 x.own y.own _ _ f.1.1.0 g.1.1.0 refl refl e i;
+  destination = number_at 3 x.destination y.destination _ _ f.1.1.1.0 g.1.1.1.0 refl refl e i;
   count = count i;
   words = ext_get_or 0 x.words y.words (a.places ∙ sym b.places) word i;
 }
   where
     count : x.count ≡ y.count
-    count = same 4 x.count y.count _ _ f.1.1.1.1.0 g.1.1.1.1.0 refl refl e
+    count = number_at 4 x.count y.count _ _ f.1.1.1.1.0 g.1.1.1.1.0 refl refl e
 
     written : payload x ≡ payload y
     written = same_figures (payload x) (payload y) f.1.1.1.1.1 g.1.1.1.1.1 (ap (drop 5) e)

@@ -9,7 +9,7 @@ use Rattle.laying.specs.Reports.Report.{faults}
 use Rattle.laying.proofs.Laying.{as_plans, named_below}
 use Rattle.laying.proofs.lay_cables.Goals as goal
 
--- the law of each
+-- a cabled layout keeps the law of its trait
 law : (x : Cabled) → Lawful (plan_of x)
 law x = lawful x.wiring.nodes x.wiring.ends x.spans.distances x.spans.reach x.wiring.paired x.nearing (x.wiring.fair.0, x.wiring.fair.1, x.spans.near) x.within
 
