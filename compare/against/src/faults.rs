@@ -1,7 +1,6 @@
 //! Sheets of the right form whose layout or set-up is refused.
 
 use crate::random::Random;
-use crate::sheets;
 use model::layout::End;
 use model::network::LONGEST_EPOCH;
 use model::sheet::{Plan, Sheet};
@@ -46,7 +45,7 @@ fn tickets(random: &mut Random, sheet: &mut Sheet) {
 /// Refused by 2.
 fn epoch(random: &mut Random, sheet: &mut Sheet) {
     // The layout or the words may be spoilt already.
-    let reach = sheets::layout(sheet.plan, &sheet.cables).map_or(0, |layout| layout.reach());
+    let reach = sheet.plan.layout(&sheet.cables).map_or(0, |layout| layout.reach());
     let least = sheet.settings.words.saturating_mul(reach + 1);
     sheet.settings.epoch = random.pick(&[0, least.saturating_sub(1), LONGEST_EPOCH + 1, u32::MAX]);
 }

@@ -1,9 +1,8 @@
 //! Lawful sheets, and the text of a sheet.
 
 use crate::random::Random;
-use model::layout::{Cable, End, Layout, Port, MOST_NODES};
+use model::layout::{Cable, End, Port, MOST_NODES};
 use model::network::{Settings, LONGEST_EPOCH, MOST_TICKETS, MOST_WORDS};
-use model::refusal::Refusal;
 use model::sheet::{Packet, Plan, Sheet};
 use model::switch::Switch;
 use std::fmt::Write;
@@ -40,7 +39,7 @@ pub fn lawful(random: &mut Random, size: Size) -> Sheet {
 
 /// A lawful sheet on a lawful layout.
 pub fn on(random: &mut Random, plan: Plan, cables: Vec<Cable>, size: Size) -> Sheet {
-    let layout = layout(plan, &cables).expect("a lawful layout");
+    let layout = plan.layout(&cables).expect("a lawful layout");
     let settings = settings(random, layout.reach());
     let cycles = random.within(0..=size.cycles);
     let traffic = Traffic {
@@ -60,13 +59,6 @@ pub fn on(random: &mut Random, plan: Plan, cables: Vec<Cable>, size: Size) -> Sh
         cycles,
         cables,
         packets,
-    }
-}
-
-pub fn layout(plan: Plan, cables: &[Cable]) -> Result<Layout, Refusal> {
-    match plan {
-        Plan::Mesh(width, height) => Layout::mesh(width, height),
-        Plan::Cabled(nodes) => Layout::cabled(nodes, cables),
     }
 }
 

@@ -11,10 +11,9 @@ pub mod refusal;
 pub mod sheet;
 pub mod switch;
 
-use layout::Layout;
 use line::Line;
 use network::{Event, Kind, Network, State, MOST_WORDS};
-use sheet::{Fault, Packet, Plan, Sheet};
+use sheet::{Fault, Packet, Sheet};
 
 /// The bytes of a run sheet's listing, or its single fault line.
 pub fn listing(sheet: &[u8]) -> Vec<u8> {
@@ -24,11 +23,7 @@ pub fn listing(sheet: &[u8]) -> Vec<u8> {
 
 /// Builds the network of a sheet and carries the sheet out.
 fn run(sheet: &Sheet) -> Result<String, Fault> {
-    let layout = match sheet.plan {
-        Plan::Mesh(width, height) => Layout::mesh(width, height),
-        Plan::Cabled(nodes) => Layout::cabled(nodes, &sheet.cables),
-    };
-    let layout = layout.map_err(Fault::of)?;
+    let layout = sheet.plan.layout(&sheet.cables).map_err(Fault::of)?;
     let nodes = layout.nodes();
     let mut network = Network::new(layout, sheet.switch);
     network.set_up(sheet.settings).map_err(Fault::of)?;

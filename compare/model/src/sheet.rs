@@ -3,7 +3,7 @@
 //! Lines are read one after another, so that the earliest faulty one is
 //! found first. What needs a layout or a network to judge is left to them.
 
-use crate::layout::{Cable, End, Port};
+use crate::layout::{Cable, End, Layout, Port};
 use crate::network::Settings;
 use crate::refusal::Refusal;
 use crate::switch::Switch;
@@ -68,6 +68,16 @@ impl Fault {
 pub enum Plan {
     Mesh(u32, u32),
     Cabled(u32),
+}
+
+impl Plan {
+    /// The layout that a sheet of this plan and these cables names.
+    pub fn layout(self, cables: &[Cable]) -> Result<Layout, Refusal> {
+        match self {
+            Plan::Mesh(width, height) => Layout::mesh(width, height),
+            Plan::Cabled(nodes) => Layout::cabled(nodes, cables),
+        }
+    }
 }
 
 #[derive(Clone, PartialEq, Eq, Debug)]

@@ -6,7 +6,7 @@ mod answer;
 
 use answer::{Answer, reply};
 use bounds::limits::Limits;
-use bounds::path::{farthest, path};
+use bounds::path::{Hop, farthest, path};
 use fabric::layout::Layout;
 use std::io::Read;
 
@@ -29,8 +29,7 @@ fn report<L: Layout>(rt: &HostRuntime, layout: &L, limits: Limits) -> anyhow::Re
     let (from, to) = farthest(layout);
     print!(rt; "path")?;
     for hop in path(layout, from, to, rt.alloc())?.iter() {
-        let node = hop.node;
-        let port = hop.port;
+        let Hop { node, port } = *hop;
         print!(rt; " {node} {port}")?;
     }
     println!(rt; " {to}")?;

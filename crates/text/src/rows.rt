@@ -2,7 +2,7 @@
 ghost use Rattle.std.specs.Prelude.{◌≡◌, ◌≤◌, [], ◌∷◌, map, length, take, codes};
 ghost use Rattle.text.specs.Fields.{words, Reads, Begins};
 ghost use Rattle.text.specs.Texts.{number, Any};
-ghost use Rattle.text.specs.Lines.{shape_line, kind_field, kind_line, run_line, Brief, cables_line, Uncabled, slot_fields, cable_line, packet_line, Blank, Sized};
+ghost use Rattle.text.specs.Lines.{shape_line, kind_field, kind_line, run_line, Brief, number_field, cables_line, Uncabled, slot_fields, cable_line, packet_line, Blank, Sized};
 
 use super::fault::Fault;
 use super::field::{Fields, is};
@@ -84,7 +84,7 @@ pub fn run(mut fields: Fields) -> Result<Run, Fault>
 
 // `packets P`, or the count of any list.
 pub fn count(mut fields: Fields) -> Result<usize, Fault>
-    ensures { Reads (λ n. number n ∷ []) Any (words fields.entry) fields.entry.line result }
+    ensures { Reads number_field Any (words fields.entry) fields.entry.line result }
 {
     let count = fields.number()? as usize;
     fields.end()?;
