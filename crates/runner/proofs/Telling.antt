@@ -1,5 +1,5 @@
 -- The events of a cycle, one after another.
-use Rattle.std.proofs.Common.{◌≡◌, ℕ, ◌+◌, ◌-◌, ◌*◌, ◌≤◌, List, [], ◌∷◌, ◌++◌, map, length, drop, Ok, Err, Result, sym, refl, ap, ◌∙◌, subst, ap₂, append_assoc, append-nil, arith}
+use Rattle.std.proofs.Common.{◌≡◌, ℕ, ◌+◌, ◌-◌, ◌*◌, ◌≤◌, List, [], ◌∷◌, ◌++◌, map, length, drop, Ok, Err, Result, sym, refl, ap, ◌∙◌, subst, ap₂, append_assoc, arith}
 use Rattle.std.proofs.lemmas.List.{length-append, length-drop, drop-drop}
 use Rattle.fabric.specs.declared.refusal.Refusal.{Refusal}
 use Rattle.fabric.specs.Refusals.{shown}
@@ -85,19 +85,7 @@ pub record Telling (t₀ : Tally) (w₀ : Writer) (es : List Event) (t : Tally) 
   pub told : Told t₀ w₀ done t w
   pub tellable : Tellable t w rest
 
--- the next event can be told by itself
-pub first : {t : Tally} {w : Writer} (e : Event) (rest : List Event) → Tellable t w (e ∷ rest) → Tellable t w (e ∷ [])
-first e rest h =
-    let one = ap length (text_one (line_of e)) in
-    let all = length-append (written (line_of e)) (text (map line_of rest)) in
-    record {
-      small = (h.small.0, tt);
-      room = let z = h.room in omega arith;
-      few_in = let z = h.few_in in omega arith;
-      few_out = let z = h.few_out in omega arith;
-      waited = h.waited;
-    }
-
+-- the next event is told
 pub next : {t₀ t t' : Tally} {w₀ w w' : Writer} {es : List Event} (e : Event) (rest : List Event) → Telling t₀ w₀ es t w (e ∷ rest) → Told t w (e ∷ []) t' w' → Telling t₀ w₀ es t' w' rest
 next {w = w} {w' = w'} e rest h m =
     let k = h.tellable in
@@ -116,7 +104,3 @@ next {w = w} {w' = w'} e rest h m =
         waited = m.waited;
       };
     }
-
--- all events are told
-pub all_told : {t₀ t : Tally} {w₀ w : Writer} {es : List Event} → Telling t₀ w₀ es t w [] → Told t₀ w₀ es t w
-all_told {t₀} {t} {w₀} {w} h = subst (λ (x : List Event). Told t₀ w₀ x t w) (sym (h.split ∙ append-nil h.done)) h.told

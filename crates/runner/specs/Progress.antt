@@ -33,11 +33,24 @@ use Rattle.runner.specs.Tallies.{Tallied}
 abbrev pub Aimed : ℕ → List (Option ℕ) → Log → Type 0
 Aimed G aims l = (t : ℕ) → t < G → slice_index_or aims t None ≡ cond (free t l) None (Some (aim (packet t l)))
 
--- the lines are no longer than what happened may have made them, after o packets of which some were refused
-pub record Spent (ls : List (List Field)) (l : Log) (o : ℕ) : Type 0 where
+-- these lines, of b bytes at most, are written at the start of the memory M, which is long enough for every listing
+pub record Page (M : List ℕ) (w : Writer) (ls : List (List Field)) (b : ℕ) : Type 0 where
+  pub written : listed w ≡ text ls
+  -- what lies beyond them is as it was
+  pub rest : beyond w ≡ drop (length (text ls)) M
+  pub long : 65536 ≤ length M
+  pub bytes : length (text ls) ≤ b
+
+-- what happened, with k packets refused, has lines of no more bytes
+abbrev pub most_bytes : ℕ → Log → ℕ
+most_bytes k l = 60 * k + (20 * entries l + (20 * count_off l + 60 * collections l))
+
+-- these lines are written of what happened when o packets were offered, of which some were refused
+pub record Spent (M : List ℕ) (w : Writer) (ls : List (List Field)) (l : Log) (o : ℕ) : Type 0 where
   pub declined : ℕ
   pub packets : declined + offers l ≡ o
-  pub bytes : length (text ls) ≤ 60 * declined + (20 * entries l + (20 * count_off l + 60 * collections l))
+  pub few : o ≤ 256
+  pub page : Page M w ls (most_bytes declined l)
 
 -- each packet that was accepted has at most four words, of 32 bits
 abbrev pub Narrow : Log → Type 0
@@ -47,22 +60,21 @@ Narrow (entered f n ∷ l) = Narrow l
 Narrow (off f n c ∷ l) = Narrow l
 Narrow (collected t r ws ∷ l) = Narrow l
 
--- the network stands in state s after o packets were offered, and these lines are written of these events, at the start of the memory M
-pub record At (F : Fabric) (P : Settings) (M : List ℕ) (i : Tables) (aims : List (Option ℕ)) (t : Tally) (w : Writer) (s : State) (ls : List (List Field)) (es : List Event) (o : ℕ) : Type 0 where
+-- the calls that led the tables to state s
+pub record Calls (F : Fabric) (P : Settings) (i : Tables) (s : State) : Type 0 where
   pub run : List Call
   pub follows : Follows F i run s
   pub settings : i.settings ≡ P
+
+-- the network stands in state s after o packets were offered, and these lines are written of these events, at the start of the memory M
+pub record At (F : Fabric) (P : Settings) (M : List ℕ) (i : Tables) (aims : List (Option ℕ)) (t : Tally) (w : Writer) (s : State) (ls : List (List Field)) (es : List Event) (o : ℕ) : Type 0 where
+  pub calls : Calls F P i s
   pub aimed : Aimed (all_tickets F.plan P) aims s.log
   pub places : length aims ≡ 512
   pub events : told s.log ≡ es
   pub narrow : Narrow s.log
   pub tallied : Tallied t es
-  pub written : listed w ≡ text ls
-  pub room : 65536 ≤ length (listed w) + length (beyond w)
-  -- of the memory M, what lies beyond the listing is as it was
-  pub rest : beyond w ≡ drop (length (text ls)) M
-  pub spent : Spent ls s.log o
-  pub few : o ≤ 256
+  pub spent : Spent M w ls s.log o
 
 -- the same of a session, of which the sizes are known
 pub record Stands {A B : Type 0} (F : Fabric) (P : Settings) (M : List ℕ) (x : Session A B) (w : Writer) (s : State) (ls : List (List Field)) (es : List Event) (o : ℕ) : Type 0 where
