@@ -3,8 +3,7 @@ use Rattle.std.proofs.Common.{◌≡◌, ℕ, ◌+◌, ◌*◌, ◌/◌, ◌%◌
 use Rattle.std.specs.List.{AllByRecursion}
 use Rattle.std.proofs.lemmas.List.{length-take-le}
 use Rattle.fabric.specs.declared.refusal.Refusal.{Refusal}
-use Rattle.fabric.specs.declared.refusal.Refusal.TheVariants.{Limits, Epoch, Seed, Missing, Destination, Words, NotFree, NotComplete, Memory, Cycles, Room, Nodes, Cable, Unreached, Length, Form, Count, Full}
-use Rattle.fabric.specs.Refusals.{shown, number as number_of_lem}
+use Rattle.fabric.specs.Refusals.{shown}
 use Rattle.fabric.specs.Layouts.{Lawful}
 use Rattle.fabric.specs.Verdicts.Verdict.{granted, refused}
 use Rattle.line.specs.Queues.{Queue, Sound, empty, contents, free_places}
@@ -36,27 +35,6 @@ use Rattle.runner.proofs.Pages.{page_line}
 use Rattle.runner.proofs.Events.{ins_append, outs_append, under_way_append}
 use Rattle.runner.proofs.Steps.{own_below, offered_at, declined_at, lines_few, room_left, tally_few, most_tickets, Cycled, cycled_at, not_refused, Numbered, numbered, busy, not_busy, Brought, brought_at, left_at}
 use Rattle.runner.proofs.Telling.{ok_shown}
-
--- a refusal's number has two digits at most
-pub number_small : (r : Refusal) → number_of_lem r < 100
-number_small Limits = omega arith
-number_small Epoch = omega arith
-number_small Seed = omega arith
-number_small Missing = omega arith
-number_small Destination = omega arith
-number_small Words = omega arith
-number_small NotFree = omega arith
-number_small NotComplete = omega arith
-number_small Memory = omega arith
-number_small Cycles = omega arith
-number_small Room = omega arith
-number_small Nodes = omega arith
-number_small (Cable i) = omega arith
-number_small (Unreached n) = omega arith
-number_small Length = omega arith
-number_small Form = omega arith
-number_small Count = omega arith
-number_small Full = omega arith
 
 all_fit : (ws : List ℕ) → AllByRecursion Fits (map number ws) → AllByRecursion (λ v. v < 2 ^ 32) ws
 all_fit [] h = tt
@@ -95,7 +73,7 @@ module _ (F : Fabric) (P : Settings) (law : Lawful F.plan) {M : List ℕ} {A B :
     pub counted : state.cycles ≡ s.cycles
     pub at : At F P M j x.aims x.tally v state (ls ++ no_line p.cycle k p.node p.own ∷ []) es (o + 1)
 
-  pub refuses : (p : Packet) {j : Tables} {v : Writer} (k : ℕ) (vs : List ℕ) (r : Result (Unit {0}) Refusal) → Sendable p → k < 100 →
+  pub refuses : (p : Packet) {j : Tables} {v : Writer} (k : ℕ) (vs : List ℕ) (r : Result (Unit {0}) Refusal) → Sendable p → k < 1000 →
       Promised F x.network.inner j (offer_of p) (offering (refused k vs)) → LineOut w (no_line p.cycle k p.node p.own) v (shown r) → (r ≡ Ok tt) × (o < 256 → Declined p j k v)
   refuses p {j} {v} k vs r ok few q out =
       let line = no_line p.cycle k p.node p.own in

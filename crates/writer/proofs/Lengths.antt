@@ -18,12 +18,12 @@ length_event c t k n kind hc hw ht hk hn =
       length-decimal-le 2 n (omega arith) (omega arith) (omega arith),
     )
 
-pub length_no : (c r n o : ℕ) → c < 2 ^ 32 → r < 100 → n < 2 ^ 32 → o < 2 ^ 32 → length (written (no_line c r n o)) ≤ 60
+pub length_no : (c r n o : ℕ) → c < 2 ^ 32 → r < 1000 → n < 2 ^ 32 → o < 2 ^ 32 → length (written (no_line c r n o)) ≤ 60
 length_no c r n o hc hr hn ho =
     omega (
       arith,
       length_written (number c) (word (codes "no") ∷ number r ∷ number n ∷ number o ∷ []),
-      length-decimal-le 2 r (omega arith) (omega arith) (omega arith),
+      length-decimal-le 3 r (omega arith) (omega arith) (omega arith),
       digits_ten c hc,
       digits_ten n hn,
       digits_ten o ho,
