@@ -1,6 +1,7 @@
 -- The bytes of lines, and what a writer has when they are written.
-use Rattle.std.proofs.Common.{◌≡◌, ℕ, ◌+◌, ◌*◌, ◌≤◌, List, [], ◌∷◌, ◌++◌, map, length, drop, sym, refl, ap, ◌∙◌, append_assoc, append-nil, subst, arith}
+use Rattle.std.proofs.Common.{◌≡◌, ℕ, ◌+◌, ◌*◌, ◌≤◌, List, [], ◌∷◌, ◌++◌, map, length, drop, sym, refl, ap, ◌∙◌, append-nil, subst, arith}
 use Rattle.std.proofs.lemmas.List.{length-append, length-drop, drop-drop}
+use Rattle.std.proofs.lemmas.Grind.{flat_map-append}
 use Rattle.std.specs.List.{AllByRecursion}
 use Rattle.network.specs.declared.event.Event.{Event}
 use Rattle.network.specs.declared.event.Kind.{Kind}
@@ -24,10 +25,6 @@ line_short e h =
     word_short In = omega arith
     word_short Out = omega arith
 
-pub text_append : (a b : List (List Field)) → text (a ++ b) ≡ text a ++ text b
-text_append [] b = refl
-text_append (l ∷ a) b = ap (λ (x : List ℕ). written l ++ x) (text_append a b) ∙ sym (append_assoc (written l) (text a) (text b))
-
 pub text_one : (l : List Field) → text (l ∷ []) ≡ written l
 text_one l = append-nil (written l)
 
@@ -38,7 +35,7 @@ page_room {M} {ls = ls} p = omega (arith, p.long, p.bytes, ap length p.rest ∙ 
 -- more lines, and one more
 pub page_more : {M : List ℕ} {w v : Writer} {ls : List (List Field)} {b c : ℕ} (more : List (List Field)) → Page M w ls b → b + length (text more) ≤ c → Appends w (text more) v → Page M v (ls ++ more) c
 page_more {M} {ls = ls} more p h a =
-    let both = text_append ls more in
+    let both = flat_map-append written ls more in
     let long = ap length both ∙ length-append (text ls) (text more) in
     record {
       written = a.listed ∙ ap (λ (x : List ℕ). x ++ text more) p.written ∙ sym both;

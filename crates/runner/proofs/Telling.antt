@@ -1,6 +1,7 @@
 -- The events of a cycle, one after another.
-use Rattle.std.proofs.Common.{◌≡◌, ℕ, ◌+◌, ◌-◌, ◌*◌, ◌≤◌, List, [], ◌∷◌, ◌++◌, map, length, drop, Ok, Err, Result, sym, refl, ap, ◌∙◌, subst, ap₂, append_assoc, arith}
-use Rattle.std.proofs.lemmas.List.{length-append, length-drop, drop-drop}
+use Rattle.std.proofs.Common.{◌≡◌, ℕ, ◌+◌, ◌-◌, ◌*◌, ◌≤◌, List, [], ◌∷◌, ◌++◌, map, length, Ok, Err, Result, sym, refl, ap, ◌∙◌, subst, ap₂, append_assoc, arith}
+use Rattle.std.proofs.lemmas.List.{length-append, length-drop, map-append}
+use Rattle.std.proofs.lemmas.Grind.{flat_map-append}
 use Rattle.fabric.specs.declared.refusal.Refusal.{Refusal}
 use Rattle.fabric.specs.Refusals.{shown}
 use Rattle.fabric.specs.Verdicts.{Verdict}
@@ -10,25 +11,22 @@ use Rattle.network.specs.declared.event.Kind.{Kind}
 use Rattle.network.specs.declared.event.Kind.TheVariants.{In, Out}
 use Rattle.text.specs.Texts.{Field, written, text}
 use Rattle.writer.specs.declared.writer.Writer.{Writer}
-use Rattle.writer.specs.Listings.{listed, beyond, Appends, LineOut, event_line}
+use Rattle.writer.specs.Listings.{beyond, Appends, LineOut, event_line}
 use Rattle.writer.proofs.Outcomes.{with_room}
+use Rattle.writer.proofs.Written.{appends_both}
 use Rattle.runner.specs.declared.tally.Tally.{Tally}
 use Rattle.network.specs.Kinds.{kind_word}
 use Rattle.runner.specs.Listing.{line_of, enters, leaves}
 use Rattle.runner.specs.Tallies.{Counts, Tellable, Told}
 use Rattle.runner.proofs.Events.{ins_append, outs_append, under_way_append}
-use Rattle.runner.proofs.Pages.{text_append, text_one}
+use Rattle.runner.proofs.Pages.{text_one}
 
 pub ok_shown : (r : Result (Unit {0}) Refusal) → shown r ≡ granted tt → r ≡ Ok tt
 ok_shown (Ok tt) e = refl
 ok_shown (Err x) e = cc
 
-map_both : (a b : List Event) → map line_of (a ++ b) ≡ map line_of a ++ map line_of b
-map_both [] b = refl
-map_both (e ∷ a) b = ap (λ (x : List (List Field)). line_of e ∷ x) (map_both a b)
-
 text_both : (a b : List Event) → text (map line_of (a ++ b)) ≡ text (map line_of a) ++ text (map line_of b)
-text_both a b = ap text (map_both a b) ∙ text_append (map line_of a) (map line_of b)
+text_both a b = ap text (map-append line_of a b) ∙ flat_map-append written (map line_of a) (map line_of b)
 
 -- the line of an event, by the words and numbers that were handed over
 pub as_line : {w w' : Writer} {v : Verdict (Unit {0})} (e : Event) {kind : List ℕ} {a b c : ℕ} → kind ≡ kind_word e.kind → a ≡ e.ticket → b ≡ e.number → c ≡ e.node →
@@ -69,12 +67,7 @@ told_more {t} {u} {v} {w} {x} {y} a b m n =
         off = let c = m.counts.off in let d = n.counts.off in let e = outs_append a b in omega arith;
         waited = let c = m.counts.waited in let d = n.counts.waited in let e = under_way_append a b in omega arith;
       };
-      appends = record {
-        listed = n.appends.listed ∙ ap (λ (z : List ℕ). z ++ text (map line_of b)) m.appends.listed ∙ append_assoc (listed w) _ _ ∙ ap (λ (z : List ℕ). listed w ++ z) (sym (text_both a b));
-        beyond =
-            n.appends.beyond ∙ ap (drop (length (text (map line_of b)))) m.appends.beyond ∙ drop-drop (length (text (map line_of b))) (length (text (map line_of a))) (beyond w)
-            ∙ ap (λ (k : ℕ). drop k (beyond w)) (sym (ap length (text_both a b) ∙ length-append (text (map line_of a)) (text (map line_of b))));
-      };
+      appends = subst (λ (z : List ℕ). Appends w z y) (sym (text_both a b)) (appends_both w x y (text (map line_of a)) (text (map line_of b)) m.appends n.appends);
       waited = n.waited;
     }
 
