@@ -13,6 +13,7 @@ use Rattle.writer.proofs.Lengths.{length_event}
 use Rattle.network.specs.Kinds.{kind_word}
 use Rattle.runner.specs.Listing.{line_of, enters, leaves, ins, outs}
 use Rattle.runner.specs.Tallies.{Small}
+use Rattle.runner.proofs.Events.{sums_cons}
 use Rattle.runner.specs.Progress.{Page}
 
 -- the line of an event has few bytes
@@ -53,11 +54,9 @@ page_line {M} {w} {v} {ls} {b} {c} line p h a =
 pub text_short : (es : List Event) → AllByRecursion Small es → length (text (map line_of es)) ≤ 20 * (ins es + outs es)
 text_short [] h = omega arith
 text_short (e ∷ es) h =
-    let z = text_short es h.1 in
     let l = length-append (written (line_of e)) (text (map line_of es)) in
-    let b = line_short e h.0 in
-    let k = counted e.kind in
-    omega arith
+    let s = sums_cons e es in
+    omega (arith, text_short es h.1, l, line_short e h.0, counted e.kind, s.0, s.1)
   where
     counted : (k : Kind) → enters k + leaves k ≡ 1
     counted In = refl

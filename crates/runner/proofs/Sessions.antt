@@ -32,7 +32,7 @@ use Rattle.runner.specs.Listing.Collects.{brought, left}
 use Rattle.runner.specs.Tallies.{Tellable, Told}
 use Rattle.runner.specs.Progress.{Page, At, Stands, Sendable}
 use Rattle.runner.proofs.Pages.{page_line}
-use Rattle.runner.proofs.Events.{ins_append, outs_append, under_way_append}
+use Rattle.runner.proofs.Events.{sums_append}
 use Rattle.runner.proofs.Steps.{own_below, offered_at, declined_at, lines_few, room_left, tally_few, most_tickets, Cycled, cycled_at, not_refused, Numbered, numbered, busy, not_busy, Brought, brought_at, left_at}
 use Rattle.runner.proofs.Telling.{ok_shown}
 
@@ -119,9 +119,9 @@ module _ (F : Fabric) (P : Settings) (law : Lawful F.plan) {M : List ℕ} {A B :
           let t = st.at.tallied in
           y.then
           (record {
-            entered = let a = m.counts.entered in let b = t.entered in let c = ins_append es fresh in omega arith;
-            off = let a = m.counts.off in let b = t.off in let c = outs_append es fresh in omega arith;
-            waited = let a = m.counts.waited in let b = t.waited in let c = under_way_append es fresh in omega arith;
+            entered = let a = m.counts.entered in let b = t.entered in let c = (sums_append es fresh).0 in omega arith;
+            off = let a = m.counts.off in let b = t.off in let c = (sums_append es fresh).1 in omega arith;
+            waited = let a = m.counts.waited in let b = t.waited in let c = (sums_append es fresh).2 in omega arith;
             short = m.waited;
           })
           m.appends

@@ -38,7 +38,7 @@ use Rattle.runner.specs.Listing.{line_of, ins, outs}
 use Rattle.runner.specs.Tallies.{Small, Tallied}
 use Rattle.runner.specs.Progress.{Aimed, Narrow, most_bytes, Calls, At}
 use Rattle.network.proofs.Counting.{Few, few}
-use Rattle.runner.proofs.Events.{ins_append, outs_append, ins_told, outs_told, Alike, alike, moves, small_told}
+use Rattle.runner.proofs.Events.{sums_append, ins_told, outs_told, Alike, alike, moves, small_told}
 use Rattle.runner.proofs.Pages.{text_short, page_room, page_more, page_line}
 
 -- a call that kept its promise
@@ -307,10 +307,10 @@ module _ (F : Fabric) (P : Settings) (law : Lawful F.plan) {M : List ℕ} {i : T
       after = few F P law accepts (subst (λ (Q : Settings). Leads F Q y.calls.run y.state) y.calls.settings y.calls.follows.leads)
 
       e1 : entries y.state.log ≡ ins es + ins fresh
-      e1 = sym (ins_told y.state.log) ∙ ap ins d.told ∙ ins_append es fresh
+      e1 = sym (ins_told y.state.log) ∙ ap ins d.told ∙ (sums_append es fresh).0
 
       e2 : count_off y.state.log ≡ outs es + outs fresh
-      e2 = sym (outs_told y.state.log) ∙ ap outs d.told ∙ outs_append es fresh
+      e2 = sym (outs_told y.state.log) ∙ ap outs d.told ∙ (sums_append es fresh).1
 
       e3 : entries s.log ≡ ins es
       e3 = sym (ins_told s.log) ∙ ap ins a.events

@@ -18,7 +18,7 @@ use Rattle.runner.specs.declared.tally.Tally.{Tally}
 use Rattle.network.specs.Kinds.{kind_word}
 use Rattle.runner.specs.Listing.{line_of, enters, leaves}
 use Rattle.runner.specs.Tallies.{Counts, Tellable, Told}
-use Rattle.runner.proofs.Events.{ins_append, outs_append, under_way_append}
+use Rattle.runner.proofs.Events.{sums_append, sums_cons}
 use Rattle.runner.proofs.Pages.{text_one}
 
 pub ok_shown : (r : Result (Unit {0}) Refusal) → shown r ≡ granted tt → r ≡ Ok tt
@@ -63,9 +63,9 @@ told_more : {t u v : Tally} {w x y : Writer} (a b : List Event) → Told t w a u
 told_more {t} {u} {v} {w} {x} {y} a b m n =
     record {
       counts = record {
-        entered = let c = m.counts.entered in let d = n.counts.entered in let e = ins_append a b in omega arith;
-        off = let c = m.counts.off in let d = n.counts.off in let e = outs_append a b in omega arith;
-        waited = let c = m.counts.waited in let d = n.counts.waited in let e = under_way_append a b in omega arith;
+        entered = let c = m.counts.entered in let d = n.counts.entered in let e = (sums_append a b).0 in omega arith;
+        off = let c = m.counts.off in let d = n.counts.off in let e = (sums_append a b).1 in omega arith;
+        waited = let c = m.counts.waited in let d = n.counts.waited in let e = (sums_append a b).2 in omega arith;
       };
       appends = subst (λ (z : List ℕ). Appends w z y) (sym (text_both a b)) (appends_both w x y (text (map line_of a)) (text (map line_of b)) m.appends n.appends);
       waited = n.waited;
@@ -92,8 +92,8 @@ next {w = w} {w' = w'} e rest h m =
       tellable = record {
         small = k.small.1;
         room = let z = k.room in omega arith;
-        few_in = let z = k.few_in in let c = m.counts.entered in omega arith;
-        few_out = let z = k.few_out in let c = m.counts.off in omega arith;
+        few_in = let z = k.few_in in let s = (sums_cons e rest).0 in let c = m.counts.entered in omega arith;
+        few_out = let z = k.few_out in let s = (sums_cons e rest).1 in let c = m.counts.off in omega arith;
         waited = m.waited;
       };
     }
