@@ -82,6 +82,10 @@ pub record Stands {A B : Type 0} (F : Fabric) (P : Settings) (M : List ℕ) (x :
   pub nodes : x.nodes ≡ F.plan.nodes
   pub tickets : x.tickets ≡ P.tickets
 
+-- wherever the session may stand
+abbrev pub Wherever : {A B : Type 0} → Fabric → Session A B → Writer → (Settings → List ℕ → State → List (List Field) → List Event → ℕ → Type 0) → Type 0
+Wherever F x w Q = (P : Settings) (M : List ℕ) (s : State) (ls : List (List Field)) (es : List Event) (o : ℕ) → Stands F P M x w s ls es o → Q P M s ls es o
+
 -- a session under way in a sheet's run
 pub record Going {A B : Type 0} (F : Fabric) (x : Session A B) (w : Writer) : Type 0 where
   pub settings : Settings
@@ -106,7 +110,7 @@ pub record OfferedFrom {A B : Type 0} (F : Fabric) (P : Settings) (M : List ℕ)
   pub stands : Stands F P M y v state (ls ++ more) es (o + 1)
 
 abbrev pub Offered : {A B : Type 0} → Fabric → Packet → Session A B → Writer → Session A B → Writer → Type 0
-Offered F p x w y v = (P : Settings) (M : List ℕ) (s : State) (ls : List (List Field)) (es : List Event) (o : ℕ) → Stands F P M x w s ls es o → o < 256 → OfferedFrom F P M p y v s ls es o
+Offered F p x w y v = Wherever F x w (λ P M s ls es o. o < 256 → OfferedFrom F P M p y v s ls es o)
 
 -- the packets that come yet: the next one, and those behind it
 abbrev pub to_come : Option Packet → List Packet → List Packet
@@ -145,8 +149,7 @@ pub record DueFrom {A B : Type 0} (F : Fabric) (P : Settings) (M : List ℕ) (c 
   pub stands : Stands F P M y v state (ls ++ more) es (o + length due)
 
 abbrev pub Due : {A B : Type 0} → Fabric → ℕ → List Packet → List Packet → Session A B → Writer → Session A B → Writer → Type 0
-Due F c coming later x w y v =
-    (P : Settings) (M : List ℕ) (s : State) (ls : List (List Field)) (es : List Event) (o : ℕ) → Stands F P M x w s ls es o → o + length coming ≤ 256 → DueFrom F P M c coming later y v s ls es o
+Due F c coming later x w y v = Wherever F x w (λ P M s ls es o. o + length coming ≤ 256 → DueFrom F P M c coming later y v s ls es o)
 
 -- the packets that are left can be offered in later cycles
 pub record Left (c : ℕ) (later : List Packet) : Type 0 where
@@ -164,8 +167,7 @@ pub record CycledFrom {A B : Type 0} (F : Fabric) (P : Settings) (M : List ℕ) 
   pub stands : Stands F P M y v state (ls ++ map line_of (puts serves)) (es ++ puts serves) o
 
 abbrev pub Cycled : {A B : Type 0} → Fabric → Session A B → Writer → Session A B → Writer → Type 0
-Cycled F x w y v =
-    (P : Settings) (M : List ℕ) (s : State) (ls : List (List Field)) (es : List Event) (o : ℕ) → Stands F P M x w s ls es o → s.cycles < 65536 → CycledFrom F P M y v s ls es o
+Cycled F x w y v = Wherever F x w (λ P M s ls es o. s.cycles < 65536 → CycledFrom F P M y v s ls es o)
 
 -- a session that is not at its last cycle
 pub record Early {A B : Type 0} (F : Fabric) (x : Session A B) (w : Writer) : Type 0 where
@@ -181,8 +183,7 @@ pub record TriedFrom {A B : Type 0} (F : Fabric) (P : Settings) (M : List ℕ) (
   pub stands : Stands F P M y v state (ls ++ more) es o
 
 abbrev pub Tried : {A B : Type 0} → Fabric → ℕ → ℕ → Session A B → Writer → Session A B → Writer → Type 0
-Tried F c g x w y v =
-    (P : Settings) (M : List ℕ) (s : State) (ls : List (List Field)) (es : List Event) (o : ℕ) → Stands F P M x w s ls es o → TriedFrom F P M c g y v s ls es o
+Tried F c g x w y v = Wherever F x w (λ P M s ls es o. TriedFrom F P M c g y v s ls es o)
 
 -- the complete tickets below g were collected
 pub record CollectedFrom {A B : Type 0} (F : Fabric) (P : Settings) (M : List ℕ) (c g : ℕ) (y : Session A B) (v : Writer) (s : State) (ls : List (List Field)) (es : List Event) (o : ℕ) : Type 0 where
@@ -193,8 +194,7 @@ pub record CollectedFrom {A B : Type 0} (F : Fabric) (P : Settings) (M : List �
   pub stands : Stands F P M y v state (ls ++ more) es o
 
 abbrev pub Collected : {A B : Type 0} → Fabric → ℕ → ℕ → Session A B → Writer → Session A B → Writer → Type 0
-Collected F c g x w y v =
-    (P : Settings) (M : List ℕ) (s : State) (ls : List (List Field)) (es : List Event) (o : ℕ) → Stands F P M x w s ls es o → CollectedFrom F P M c g y v s ls es o
+Collected F c g x w y v = Wherever F x w (λ P M s ls es o. CollectedFrom F P M c g y v s ls es o)
 
 -- one cycle of the run, from its offers to its collections
 pub record TurnedFrom {A B : Type 0} (F : Fabric) (P : Settings) (M : List ℕ) (c : ℕ) (coming later : List Packet) (y : Session A B) (v : Writer) (s : State) (ls : List (List Field)) (es : List Event) (o : ℕ) : Type 0 where
@@ -208,8 +208,7 @@ pub record TurnedFrom {A B : Type 0} (F : Fabric) (P : Settings) (M : List ℕ) 
   pub stands : Stands F P M y v state (ls ++ more) (es ++ news) (o + length due)
 
 abbrev pub Turned : {A B : Type 0} → Fabric → ℕ → List Packet → List Packet → Session A B → Writer → Session A B → Writer → Type 0
-Turned F c coming later x w y v =
-    (P : Settings) (M : List ℕ) (s : State) (ls : List (List Field)) (es : List Event) (o : ℕ) → Stands F P M x w s ls es o → s.cycles ≡ c → o + length coming ≤ 256 → TurnedFrom F P M c coming later y v s ls es o
+Turned F c coming later x w y v = Wherever F x w (λ P M s ls es o. s.cycles ≡ c → o + length coming ≤ 256 → TurnedFrom F P M c coming later y v s ls es o)
 
 -- a session whose network was just set up, with all its packets to come
 pub record Begun {A B : Type 0} (F : Fabric) (cycles : ℕ) (ps : List Packet) (x : Session A B) (w : Writer) : Type 0 where
