@@ -2,7 +2,7 @@
 use Rattle.std.proofs.Common.{◌≡◌, ℕ, zero, suc, ◌+◌, ◌<◌, ◌≤◌, List, [], ◌∷◌, ◌++◌, Some, None, Option, refl, subst, arith}
 use Rattle.std.specs.List.{AllByRecursion}
 use Rattle.std.proofs.lemmas.List.Sums.{sum_by-cons, sum_by-append}
-use Rattle.std.proofs.ByRecursion.{All-append}
+use Rattle.std.proofs.SliceLists.{all_by_recursion_push}
 use Rattle.fabric.specs.declared.parts.Flit.{Flit}
 use Rattle.fabric.specs.declared.parts.Port.{Port}
 use Rattle.bounds.specs.declared.settings.Settings.{Settings}
@@ -82,16 +82,14 @@ module _ (F : Fabric) (P : Settings) (s : State) (i : Inv F P s 0) (nodes : F.pl
   small_off n e (Some b) t l h =
       let z = i.sits n b.0 b.1 t.0.0 in
       let x = i.opens b.1.ticket z.open_ticket in
-      All-append Small (told l) _ h (
-        record {
-          cycle = early;
-          ticket = let y = x.ticket in omega arith;
-          number = let y = x.short in let u = z.in_size in omega arith;
-          node = omega arith;
-          since = (i.timely b.1 z.from z.was_entered).0;
-        },
-        tt,
-      )
+      all_by_recursion_push Small (told l) _ h
+      (record {
+        cycle = early;
+        ticket = let y = x.ticket in omega arith;
+        number = let y = x.short in let u = z.in_size in omega arith;
+        node = omega arith;
+        since = (i.timely b.1 z.from z.was_entered).0;
+      })
 
   small_in : (n : ℕ) → n < F.plan.nodes → (places : Places) (o : Option (Port × Flit)) → LetsIn P s n places o → (l : Log) → AllByRecursion Small (told l) →
       AllByRecursion Small (told (entered_at n o ++ l))
@@ -102,16 +100,14 @@ module _ (F : Fabric) (P : Settings) (s : State) (i : Inv F P s 0) (nodes : F.pl
       let w : Each (Waits P s.log n) (f.ticket ∷ z.others) = subst (λ (x : List ℕ). Each (Waits P s.log n) x) z.ticket (i.queue n) in
       let x = i.opens f.ticket w.0.open_ticket in
       let now = z.now in
-      All-append Small (told l) _ h (
-        record {
-          cycle = omega arith;
-          ticket = let y = x.ticket in omega arith;
-          number = let y = x.short in let u = w.0.more in let v = z.number in omega arith;
-          node = omega arith;
-          since = omega arith;
-        },
-        tt,
-      )
+      all_by_recursion_push Small (told l) _ h
+      (record {
+        cycle = omega arith;
+        ticket = let y = x.ticket in omega arith;
+        number = let y = x.short in let u = w.0.more in let v = z.number in omega arith;
+        node = omega arith;
+        since = omega arith;
+      })
 
   small_news : (work : ℕ → Work) → ((n : ℕ) → n < F.plan.nodes → Works F P s n (work n)) → (n : ℕ) → n ≤ F.plan.nodes → AllByRecursion Small (told (news s.cycles work n))
   small_news work works zero h = tt

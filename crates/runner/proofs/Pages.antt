@@ -50,7 +50,7 @@ page_line {M} {w} {v} {ls} {b} {c} line p h a =
     let one = text_one line in
     page_more (line ∷ []) p (omega (arith, h, ap length one)) (subst (λ (x : List ℕ). Appends w x v) (sym one) a)
 
--- the lines of events
+-- the lines of events have at most 20 bytes each
 pub text_short : (es : List Event) → AllByRecursion Small es → length (text (map line_of es)) ≤ 20 * (ins es + outs es)
 text_short [] h = omega arith
 text_short (e ∷ es) h =

@@ -177,7 +177,7 @@ module _ (F : Fabric) (P : Settings) (law : Lawful F.plan) {M : List ℕ} {A B :
           brought m y.whole split_ticket.ticket
           (subst (λ (n : ℕ). Serves F P s (collect n (g / x.tickets) (g % x.tickets) memory) (collecting (granted k) m') y.state) (sym (busy F P law st.at g d among e).goes) y.serves)
 
-  -- the last line
+  -- the mean has 32 bits
   pub mean_small : (x n : ℕ) → x ≤ 100000000 → IfSome (mean_of x n) (λ t. t < 2 ^ 32)
   mean_small x n h = go (eqb n 0) refl
     where
@@ -185,6 +185,7 @@ module _ (F : Fabric) (P : Settings) (law : Lawful F.plan) {M : List ℕ} {A B :
       go true e = tt
       go false e = let d = div-le_self (10 * x) n in omega arith
 
+  -- the last line
   pub ends : {v : Writer} (r : Result (Unit {0}) Refusal) → LineOut w (end_line x.tally.entered x.tally.off (mean_of x.tally.waited x.tally.off)) v (shown r) →
       (r ≡ Ok tt) × Page M v (ls ++ end_line (ins es) (outs es) (mean_of (under_way es) (outs es)) ∷ []) 65536
   ends {v} r out =

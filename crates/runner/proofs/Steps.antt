@@ -5,7 +5,6 @@ use Rattle.std.proofs.lemmas.Nat.{div_below, mod_below, div-add-mod'}
 use Rattle.std.proofs.lemmas.List.{length-append, length-set, get_or-set_same, get_or-set_other, take-append-le, take_all}
 use Rattle.std.proofs.lemmas.Bool.{cases_eq, eq-eqb, ne_eqb, or_parts, or_from, leb-false, lt-leb, le-ltb, not-false, not_from_true, cond-false}
 use Rattle.fabric.specs.Layouts.{Lawful}
-use Rattle.fabric.specs.Verdicts.{Verdict}
 use Rattle.fabric.specs.Verdicts.Verdict.{granted, refused}
 use Rattle.line.specs.Queues.{Queue, Sound, contents, free_places}
 use Rattle.bounds.specs.declared.settings.Settings.{Settings}
@@ -62,11 +61,6 @@ length_gathered u (suc m) l =
     let h = length_gathered u m l in
     length-append (gathered u m l) _ ∙ omega arith
 
--- of a verdict that grants: what it grants
-abbrev value_in : Verdict ℕ → ℕ
-value_in (granted k) = k
-value_in (refused k vs) = 0
-
 -- a collection that was granted: what it does, that its ticket is complete, and the words that it brings
 module _ (F : Fabric) (P : Settings) where
   pub collect_did : {s : State} {d n m k : ℕ} {memory m' : List ℕ} {r : State} → Serves F P s (collect d n m memory) (collecting (granted k) m') r →
@@ -81,7 +75,7 @@ module _ (F : Fabric) (P : Settings) where
         let v8 = peel 8 (not (complete u s.log) || not (eqb (aim (packet u s.log)) d)) _ k v4.1 in
         let v9 = peel 9 (ltb (length memory) (size (packet u s.log))) _ k v8.1 in (
           not-false (complete u s.log) (or_parts (not (complete u s.log)) (not (eqb (aim (packet u s.log)) d)) v8.0).0,
-          ap value_in v9.1,
+          let e = v9.1 in cc,
         )
 
     pub collect_taken : take k m' ≡ collection F P s (ticket F P n m)
@@ -153,7 +147,7 @@ module _ (F : Fabric) (P : Settings) (law : Lawful F.plan) {M : List ℕ} {i : T
       let w = a.tallied.short in
       record { entered = omega arith; off = omega arith; waited = omega arith }
 
-  -- what is known of a packet that was accepted
+  -- what a granted offer was tested for, and what it logs
   offer_did : {n m d : ℕ} {ws : List ℕ} {r : State} → Serves F P s (offer n m d ws) (offering (granted tt)) r →
       (offer_verdict F P s n m d ws ≡ granted tt) × (r ≡ with_log F P s (offered (ticket F P n m) (record { destination = d; words = ws })))
   offer_did (offer_granted e) = (e, refl)

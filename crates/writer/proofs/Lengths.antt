@@ -43,7 +43,7 @@ length_done c t ws hc ht l h =
       spread_words ws h,
     )
 
--- the mean, in tenths, if there is one
+-- the last line has at most 64 bytes
 pub length_end : (a b : ℕ) (m : Option ℕ) → a < 2 ^ 32 → b < 2 ^ 32 → IfSome m (λ t. t < 2 ^ 32) → length (written (end_line a b m)) ≤ 64
 length_end a b m ha hb hm = omega (arith, length_written (word (codes "end")) (number a ∷ number b ∷ word (mean_word m) ∷ []), digits_ten a ha, digits_ten b hb, length_mean_le m hm)
   where
