@@ -33,7 +33,7 @@ text_one l = append-nil (written l)
 pub page_room : {M : List ℕ} {w : Writer} {ls : List (List Field)} {b : ℕ} → Page M w ls b → 65536 ≤ b + length (beyond w)
 page_room {M} {ls = ls} p = omega (arith, p.long, p.bytes, ap length p.rest ∙ length-drop (length (text ls)) M)
 
--- more lines, and one more
+-- the next page, with more lines or with one more
 pub page_more : {M : List ℕ} {w v : Writer} {ls : List (List Field)} {b c : ℕ} (more : List (List Field)) → Page M w ls b → b + length (text more) ≤ c → Appends w (text more) v → Page M v (ls ++ more) c
 page_more {M} {ls = ls} more p h a =
     let both = flat_map-append written ls more in
