@@ -3,36 +3,24 @@
 #![tactic(auto)]
 
 mod answer;
+mod lines;
 
 use answer::{Answer, reply};
 use bounds::limits::Limits;
-use bounds::path::{Hop, farthest, path};
+use bounds::path::{farthest, path};
 use fabric::layout::Layout;
+use lines::{Lines, Path};
 use std::io::Read;
 
 // One byte more than a sheet may have is enough to see that it is too long.
 const MOST_READ: u64 = 65537;
 
 fn report<L: Layout>(rt: &HostRuntime, layout: &L, limits: Limits) -> anyhow::Result<()> {
-    let Limits {
-        nodes,
-        reach,
-        tickets,
-        epoch,
-        latest,
-    } = limits;
-    println!(rt; "nodes {nodes}")?;
-    println!(rt; "reach {reach}")?;
-    println!(rt; "tickets {tickets}")?;
-    println!(rt; "epoch {epoch}")?;
-    println!(rt; "limit {latest}")?;
+    print!(rt; "{}", Lines(limits))?;
     let (from, to) = farthest(layout);
-    print!(rt; "path")?;
-    for hop in path(layout, from, to, rt.alloc())?.iter() {
-        let Hop { node, port } = *hop;
-        print!(rt; " {node} {port}")?;
-    }
-    println!(rt; " {to}")?;
+    let hops = path(layout, from, to, rt.alloc())?;
+    let hops = hops.as_slice();
+    println!(rt; "{}", Path { hops, to })?;
     Ok(())
 }
 

@@ -35,19 +35,18 @@ pub at_first : {A B : Type 0} {F : Fabric} {P : Settings} {x : Session A B} {w :
 at_first b h nodes tickets aims tallied =
     record {
       at = record {
-        run = [];
-        follows = b.follows;
-        settings = b.settings;
+        calls = record { run = []; follows = b.follows; settings = b.settings };
         aimed = λ t l. ap (λ (a : List (Option ℕ)). get_or a t None) aims ∙ none_aimed 512 t;
         places = ap length aims;
         events = refl;
         narrow = tt;
         tallied = tallied;
-        written = h.none;
-        room = let r = h.room in omega arith;
-        rest = refl;
-        spent = record { declined = 0; packets = refl; bytes = omega arith };
-        few = omega arith;
+        spent = record {
+          declined = 0;
+          packets = refl;
+          few = omega arith;
+          page = record { written = h.none; rest = refl; long = h.room; bytes = omega arith };
+        };
       };
       nodes = nodes;
       tickets = tickets;

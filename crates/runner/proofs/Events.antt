@@ -1,7 +1,8 @@
 -- The events of a run: how many they are, and what they can hold.
 use Rattle.std.proofs.Common.{◌≡◌, ℕ, zero, suc, ◌+◌, ◌<◌, ◌≤◌, List, [], ◌∷◌, ◌++◌, Some, None, Option, refl, subst, arith}
 use Rattle.std.specs.List.{AllByRecursion}
-use Rattle.std.proofs.ByRecursion.{All-append}
+use Rattle.std.proofs.lemmas.List.Sums.{sum_by-cons, sum_by-append}
+use Rattle.std.proofs.SliceLists.{all_by_recursion_push}
 use Rattle.fabric.specs.declared.parts.Flit.{Flit}
 use Rattle.fabric.specs.declared.parts.Port.{Port}
 use Rattle.bounds.specs.declared.settings.Settings.{Settings}
@@ -13,35 +14,30 @@ use Rattle.network.specs.Cycle.{Fabric, State, Places, Work, Works, Takes, LetsI
 use Rattle.network.specs.Runs.{told, count_off, event_in, event_out}
 use Rattle.network.proofs.Invariant.{Inv, Waits, Each}
 use Rattle.network.specs.Counts.{offers, entries, collections}
-use Rattle.runner.specs.Listing.{ins, outs, under_way}
+use Rattle.runner.specs.Listing.{enters, leaves, ins, outs, under_way}
 use Rattle.runner.specs.Tallies.{Small}
 use Rattle.runner.specs.Progress.{Narrow}
 
-pub ins_append : (a b : List Event) → ins (a ++ b) ≡ ins a + ins b
-ins_append [] b = omega arith
-ins_append (e ∷ a) b = let h = ins_append a b in omega arith
+-- what is summed up of events
+pub sums_append : (a b : List Event) → (ins (a ++ b) ≡ ins a + ins b) × (outs (a ++ b) ≡ outs a + outs b) × (under_way (a ++ b) ≡ under_way a + under_way b)
+sums_append a b = (sum_by-append _ a b, sum_by-append _ a b, sum_by-append _ a b)
 
-pub outs_append : (a b : List Event) → outs (a ++ b) ≡ outs a + outs b
-outs_append [] b = omega arith
-outs_append (e ∷ a) b = let h = outs_append a b in omega arith
-
-pub under_way_append : (a b : List Event) → under_way (a ++ b) ≡ under_way a + under_way b
-under_way_append [] b = omega arith
-under_way_append (e ∷ a) b = let h = under_way_append a b in omega arith
+pub sums_cons : (e : Event) (es : List Event) → (ins (e ∷ es) ≡ enters e.kind + ins es) × (outs (e ∷ es) ≡ leaves e.kind + outs es)
+sums_cons e es = (sum_by-cons _ e es, sum_by-cons _ e es)
 
 -- the events tell of each entry and each taking off
 pub ins_told : (l : Log) → ins (told l) ≡ entries l
 ins_told [] = refl
 ins_told (offered t p ∷ l) = ins_told l
-ins_told (entered f n ∷ l) = let h = ins_told l in let e = ins_append (told l) (event_in f n ∷ []) in omega arith
-ins_told (off f n c ∷ l) = let h = ins_told l in let e = ins_append (told l) (event_out f n c ∷ []) in omega arith
+ins_told (entered f n ∷ l) = let h = ins_told l in let e = (sums_append (told l) (event_in f n ∷ [])).0 in omega arith
+ins_told (off f n c ∷ l) = let h = ins_told l in let e = (sums_append (told l) (event_out f n c ∷ [])).0 in omega arith
 ins_told (collected t r ws ∷ l) = ins_told l
 
 pub outs_told : (l : Log) → outs (told l) ≡ count_off l
 outs_told [] = refl
 outs_told (offered t p ∷ l) = outs_told l
-outs_told (entered f n ∷ l) = let h = outs_told l in let e = outs_append (told l) (event_in f n ∷ []) in omega arith
-outs_told (off f n c ∷ l) = let h = outs_told l in let e = outs_append (told l) (event_out f n c ∷ []) in omega arith
+outs_told (entered f n ∷ l) = let h = outs_told l in let e = (sums_append (told l) (event_in f n ∷ [])).1 in omega arith
+outs_told (off f n c ∷ l) = let h = outs_told l in let e = (sums_append (told l) (event_out f n c ∷ [])).1 in omega arith
 outs_told (collected t r ws ∷ l) = outs_told l
 
 -- a cycle brings entries and takings off alone
@@ -86,16 +82,14 @@ module _ (F : Fabric) (P : Settings) (s : State) (i : Inv F P s 0) (nodes : F.pl
   small_off n e (Some b) t l h =
       let z = i.sits n b.0 b.1 t.0.0 in
       let x = i.opens b.1.ticket z.open_ticket in
-      All-append Small (told l) _ h (
-        record {
-          cycle = early;
-          ticket = let y = x.ticket in omega arith;
-          number = let y = x.short in let u = z.in_size in omega arith;
-          node = omega arith;
-          since = (i.timely b.1 z.from z.was_entered).0;
-        },
-        tt,
-      )
+      all_by_recursion_push Small (told l) _ h
+      (record {
+        cycle = early;
+        ticket = let y = x.ticket in omega arith;
+        number = let y = x.short in let u = z.in_size in omega arith;
+        node = omega arith;
+        since = (i.timely b.1 z.from z.was_entered).0;
+      })
 
   small_in : (n : ℕ) → n < F.plan.nodes → (places : Places) (o : Option (Port × Flit)) → LetsIn P s n places o → (l : Log) → AllByRecursion Small (told l) →
       AllByRecursion Small (told (entered_at n o ++ l))
@@ -106,16 +100,14 @@ module _ (F : Fabric) (P : Settings) (s : State) (i : Inv F P s 0) (nodes : F.pl
       let w : Each (Waits P s.log n) (f.ticket ∷ z.others) = subst (λ (x : List ℕ). Each (Waits P s.log n) x) z.ticket (i.queue n) in
       let x = i.opens f.ticket w.0.open_ticket in
       let now = z.now in
-      All-append Small (told l) _ h (
-        record {
-          cycle = omega arith;
-          ticket = let y = x.ticket in omega arith;
-          number = let y = x.short in let u = w.0.more in let v = z.number in omega arith;
-          node = omega arith;
-          since = omega arith;
-        },
-        tt,
-      )
+      all_by_recursion_push Small (told l) _ h
+      (record {
+        cycle = omega arith;
+        ticket = let y = x.ticket in omega arith;
+        number = let y = x.short in let u = w.0.more in let v = z.number in omega arith;
+        node = omega arith;
+        since = omega arith;
+      })
 
   small_news : (work : ℕ → Work) → ((n : ℕ) → n < F.plan.nodes → Works F P s n (work n)) → (n : ℕ) → n ≤ F.plan.nodes → AllByRecursion Small (told (news s.cycles work n))
   small_news work works zero h = tt

@@ -1,17 +1,20 @@
 -- The bytes of lines, and what a writer has when they are written.
-use Rattle.std.proofs.Common.{◌≡◌, ℕ, ◌+◌, ◌*◌, ◌≤◌, List, [], ◌∷◌, ◌++◌, map, length, drop, sym, refl, ap, ◌∙◌, append_assoc, append-nil, arith}
+use Rattle.std.proofs.Common.{◌≡◌, ℕ, ◌+◌, ◌*◌, ◌≤◌, List, [], ◌∷◌, ◌++◌, map, length, drop, sym, refl, ap, ◌∙◌, append-nil, subst, arith}
 use Rattle.std.proofs.lemmas.List.{length-append, length-drop, drop-drop}
+use Rattle.std.proofs.lemmas.Grind.{flat_map-append}
 use Rattle.std.specs.List.{AllByRecursion}
 use Rattle.network.specs.declared.event.Event.{Event}
 use Rattle.network.specs.declared.event.Kind.{Kind}
 use Rattle.network.specs.declared.event.Kind.TheVariants.{In, Out}
 use Rattle.text.specs.Texts.{Field, written, text}
 use Rattle.writer.specs.declared.writer.Writer.{Writer}
-use Rattle.writer.specs.Listings.{listed, beyond, Appends}
+use Rattle.writer.specs.Listings.{beyond, Appends}
 use Rattle.writer.proofs.Lengths.{length_event}
 use Rattle.network.specs.Kinds.{kind_word}
 use Rattle.runner.specs.Listing.{line_of, enters, leaves, ins, outs}
 use Rattle.runner.specs.Tallies.{Small}
+use Rattle.runner.proofs.Events.{sums_cons}
+use Rattle.runner.specs.Progress.{Page}
 
 -- the line of an event has few bytes
 line_short : (e : Event) → Small e → length (written (line_of e)) ≤ 20
@@ -23,40 +26,37 @@ line_short e h =
     word_short In = omega arith
     word_short Out = omega arith
 
-pub text_append : (a b : List (List Field)) → text (a ++ b) ≡ text a ++ text b
-text_append [] b = refl
-text_append (l ∷ a) b = ap (λ (x : List ℕ). written l ++ x) (text_append a b) ∙ sym (append_assoc (written l) (text a) (text b))
-
 pub text_one : (l : List Field) → text (l ∷ []) ≡ written l
 text_one l = append-nil (written l)
 
--- the lines of a writer with more of them
-pub record Wrote (w w' : Writer) (M : List ℕ) (ls : List (List Field)) : Type 0 where
-  pub lines : listed w' ≡ text ls
-  pub rest : beyond w' ≡ drop (length (text ls)) M
-  pub room : length (listed w') + length (beyond w') ≡ length (listed w) + length (beyond w)
+-- the room that a page leaves
+pub page_room : {M : List ℕ} {w : Writer} {ls : List (List Field)} {b : ℕ} → Page M w ls b → 65536 ≤ b + length (beyond w)
+page_room {M} {ls = ls} p = omega (arith, p.long, p.bytes, ap length p.rest ∙ length-drop (length (text ls)) M)
 
-pub wrote : {w w' : Writer} {M : List ℕ} (ls more : List (List Field)) → listed w ≡ text ls → beyond w ≡ drop (length (text ls)) M → length (text more) ≤ length (beyond w) → Appends w (text more) w' → Wrote w w' M (ls ++ more)
-wrote {w} {w'} {M} ls more e r h a =
-    let l = ap length a.listed ∙ length-append (listed w) (text more) in
-    let b = ap length a.beyond ∙ length-drop (length (text more)) (beyond w) in
+-- the next page, with more lines or with one more
+pub page_more : {M : List ℕ} {w v : Writer} {ls : List (List Field)} {b c : ℕ} (more : List (List Field)) → Page M w ls b → b + length (text more) ≤ c → Appends w (text more) v → Page M v (ls ++ more) c
+page_more {M} {ls = ls} more p h a =
+    let both = flat_map-append written ls more in
+    let long = ap length both ∙ length-append (text ls) (text more) in
     record {
-      lines = a.listed ∙ ap (λ (x : List ℕ). x ++ text more) e ∙ sym (text_append ls more);
-      rest =
-          a.beyond ∙ ap (drop (length (text more))) r ∙ drop-drop (length (text more)) (length (text ls)) M
-          ∙ ap (λ (k : ℕ). drop k M) (sym (ap length (text_append ls more) ∙ length-append (text ls) (text more)));
-      room = omega (arith, l, b);
+      written = a.listed ∙ ap (λ (x : List ℕ). x ++ text more) p.written ∙ sym both;
+      rest = a.beyond ∙ ap (drop (length (text more))) p.rest ∙ drop-drop (length (text more)) (length (text ls)) M ∙ ap (λ (k : ℕ). drop k M) (sym long);
+      long = p.long;
+      bytes = omega (arith, p.bytes, h, long);
     }
 
--- the lines of events
+pub page_line : {M : List ℕ} {w v : Writer} {ls : List (List Field)} {b c : ℕ} (line : List Field) → Page M w ls b → b + length (written line) ≤ c → Appends w (written line) v → Page M v (ls ++ line ∷ []) c
+page_line {M} {w} {v} {ls} {b} {c} line p h a =
+    let one = text_one line in
+    page_more (line ∷ []) p (omega (arith, h, ap length one)) (subst (λ (x : List ℕ). Appends w x v) (sym one) a)
+
+-- the lines of events have at most 20 bytes each
 pub text_short : (es : List Event) → AllByRecursion Small es → length (text (map line_of es)) ≤ 20 * (ins es + outs es)
 text_short [] h = omega arith
 text_short (e ∷ es) h =
-    let z = text_short es h.1 in
     let l = length-append (written (line_of e)) (text (map line_of es)) in
-    let b = line_short e h.0 in
-    let k = counted e.kind in
-    omega arith
+    let s = sums_cons e es in
+    omega (arith, text_short es h.1, l, line_short e h.0, counted e.kind, s.0, s.1)
   where
     counted : (k : Kind) → enters k + leaves k ≡ 1
     counted In = refl

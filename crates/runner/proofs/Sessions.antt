@@ -1,10 +1,9 @@
 -- The calls of a session, by what the network's own calls bring.
 use Rattle.std.proofs.Common.{◌≡◌, ℕ, ◌+◌, ◌*◌, ◌/◌, ◌%◌, ◌^◌, ◌<◌, ◌≤◌, Bool, true, false, cond, eqb, List, [], ◌∷◌, ◌++◌, map, length, get_or, take, set, IfSome, Some, None, Ok, Result, sym, refl, ap, ◌∙◌, subst, ap₂, subst₂, append-nil, div-le_self, arith}
 use Rattle.std.specs.List.{AllByRecursion}
-use Rattle.std.proofs.lemmas.List.{length-append, length-take-le}
+use Rattle.std.proofs.lemmas.List.{length-take-le}
 use Rattle.fabric.specs.declared.refusal.Refusal.{Refusal}
-use Rattle.fabric.specs.declared.refusal.Refusal.TheVariants.{Limits, Epoch, Seed, Missing, Destination, Words, NotFree, NotComplete, Memory, Cycles, Room, Nodes, Cable, Unreached, Length, Form, Count, Full}
-use Rattle.fabric.specs.Refusals.{shown, number as number_of_lem}
+use Rattle.fabric.specs.Refusals.{shown}
 use Rattle.fabric.specs.Layouts.{Lawful}
 use Rattle.fabric.specs.Verdicts.Verdict.{granted, refused}
 use Rattle.line.specs.Queues.{Queue, Sound, empty, contents, free_places}
@@ -19,10 +18,10 @@ use Rattle.network.specs.Runs.Outcome.{offering, cycling, collecting}
 use Rattle.calls.specs.declared.tables.Tables.{Tables}
 use Rattle.calls.specs.Follow.{Promised}
 use Rattle.text.specs.declared.parts.Packet.{Packet}
-use Rattle.text.specs.Texts.{Field, Fits, number, written, text}
+use Rattle.text.specs.Texts.{Field, Fits, number, written}
 use Rattle.text.specs.Lines.{payload}
 use Rattle.writer.specs.declared.writer.Writer.{Writer}
-use Rattle.writer.specs.Listings.{beyond, Appends, LineOut, no_line, done_line, end_line}
+use Rattle.writer.specs.Listings.{beyond, LineOut, no_line, done_line, end_line}
 use Rattle.writer.proofs.Outcomes.{with_room}
 use Rattle.writer.proofs.Lengths.{length_no, length_done, length_end}
 use Rattle.runner.specs.declared.tally.Tally.{Tally}
@@ -31,32 +30,11 @@ use Rattle.runner.specs.Listing.{line_of, ins, outs, under_way, mean_of, offer_o
 use Rattle.runner.specs.Listing.Offers.{accepted, declined}
 use Rattle.runner.specs.Listing.Collects.{brought, left}
 use Rattle.runner.specs.Tallies.{Tellable, Told}
-use Rattle.runner.specs.Progress.{At, Stands, Sendable}
-use Rattle.runner.proofs.Pages.{text_append, text_one, Wrote, wrote}
-use Rattle.runner.proofs.Events.{ins_append, outs_append, under_way_append}
+use Rattle.runner.specs.Progress.{Page, At, Stands, Sendable}
+use Rattle.runner.proofs.Pages.{page_line}
+use Rattle.runner.proofs.Events.{sums_append}
 use Rattle.runner.proofs.Steps.{own_below, offered_at, declined_at, lines_few, room_left, tally_few, most_tickets, Cycled, cycled_at, not_refused, Numbered, numbered, busy, not_busy, Brought, brought_at, left_at}
 use Rattle.runner.proofs.Telling.{ok_shown}
-
--- a refusal's number has two digits at most
-pub number_small : (r : Refusal) → number_of_lem r < 100
-number_small Limits = omega arith
-number_small Epoch = omega arith
-number_small Seed = omega arith
-number_small Missing = omega arith
-number_small Destination = omega arith
-number_small Words = omega arith
-number_small NotFree = omega arith
-number_small NotComplete = omega arith
-number_small Memory = omega arith
-number_small Cycles = omega arith
-number_small Room = omega arith
-number_small Nodes = omega arith
-number_small (Cable i) = omega arith
-number_small (Unreached n) = omega arith
-number_small Length = omega arith
-number_small Form = omega arith
-number_small Count = omega arith
-number_small Full = omega arith
 
 all_fit : (ws : List ℕ) → AllByRecursion Fits (map number ws) → AllByRecursion (λ v. v < 2 ^ 32) ws
 all_fit [] h = tt
@@ -95,7 +73,7 @@ module _ (F : Fabric) (P : Settings) (law : Lawful F.plan) {M : List ℕ} {A B :
     pub counted : state.cycles ≡ s.cycles
     pub at : At F P M j x.aims x.tally v state (ls ++ no_line p.cycle k p.node p.own ∷ []) es (o + 1)
 
-  pub refuses : (p : Packet) {j : Tables} {v : Writer} (k : ℕ) (vs : List ℕ) (r : Result (Unit {0}) Refusal) → Sendable p → k < 100 →
+  pub refuses : (p : Packet) {j : Tables} {v : Writer} (k : ℕ) (vs : List ℕ) (r : Result (Unit {0}) Refusal) → Sendable p → k < 1000 →
       Promised F x.network.inner j (offer_of p) (offering (refused k vs)) → LineOut w (no_line p.cycle k p.node p.own) v (shown r) → (r ≡ Ok tt) × (o < 256 → Declined p j k v)
   refuses p {j} {v} k vs r ok few q out =
       let line = no_line p.cycle k p.node p.own in
@@ -141,9 +119,9 @@ module _ (F : Fabric) (P : Settings) (law : Lawful F.plan) {M : List ℕ} {A B :
           let t = st.at.tallied in
           y.then
           (record {
-            entered = let a = m.counts.entered in let b = t.entered in let c = ins_append es fresh in omega arith;
-            off = let a = m.counts.off in let b = t.off in let c = outs_append es fresh in omega arith;
-            waited = let a = m.counts.waited in let b = t.waited in let c = under_way_append es fresh in omega arith;
+            entered = let a = m.counts.entered in let b = t.entered in let c = (sums_append es fresh).0 in omega arith;
+            off = let a = m.counts.off in let b = t.off in let c = (sums_append es fresh).1 in omega arith;
+            waited = let a = m.counts.waited in let b = t.waited in let c = (sums_append es fresh).2 in omega arith;
             short = m.waited;
           })
           m.appends
@@ -199,7 +177,7 @@ module _ (F : Fabric) (P : Settings) (law : Lawful F.plan) {M : List ℕ} {A B :
           brought m y.whole split_ticket.ticket
           (subst (λ (n : ℕ). Serves F P s (collect n (g / x.tickets) (g % x.tickets) memory) (collecting (granted k) m') y.state) (sym (busy F P law st.at g d among e).goes) y.serves)
 
-  -- the last line
+  -- the mean has 32 bits
   pub mean_small : (x n : ℕ) → x ≤ 100000000 → IfSome (mean_of x n) (λ t. t < 2 ^ 32)
   mean_small x n h = go (eqb n 0) refl
     where
@@ -207,9 +185,9 @@ module _ (F : Fabric) (P : Settings) (law : Lawful F.plan) {M : List ℕ} {A B :
       go true e = tt
       go false e = let d = div-le_self (10 * x) n in omega arith
 
+  -- the last line
   pub ends : {v : Writer} (r : Result (Unit {0}) Refusal) → LineOut w (end_line x.tally.entered x.tally.off (mean_of x.tally.waited x.tally.off)) v (shown r) →
-      (r ≡ Ok tt) × (Wrote w v M (ls ++ end_line (ins es) (outs es) (mean_of (under_way es) (outs es)) ∷ [])
-      × (length (text (ls ++ end_line (ins es) (outs es) (mean_of (under_way es) (outs es)) ∷ [])) ≤ 65536))
+      (r ≡ Ok tt) × Page M v (ls ++ end_line (ins es) (outs es) (mean_of (under_way es) (outs es)) ∷ []) 65536
   ends {v} r out =
       let t = x.tally in
       let k = st.at.tallied in
@@ -218,15 +196,9 @@ module _ (F : Fabric) (P : Settings) (law : Lawful F.plan) {M : List ℕ} {A B :
       let short : length (written line) ≤ 64 =
       length_end t.entered t.off (mean_of t.waited t.off) (let h = few.entered in omega arith) (let h = few.off in omega arith) (mean_small t.waited t.off few.waited) in
       let left = room_left F P law st.at in
-      let z = with_room (let n : length (written line) ≤ length (beyond w) = omega arith in n) out in
-      let one = text_one line in
-      let l1 : length (text (line ∷ [])) ≡ length (written line) = ap length one in (
+      let z = with_room (let n : length (written line) ≤ length (beyond w) = omega arith in n) out in (
         ok_shown r z.0,
-        subst (λ (l : List Field). Wrote w v M (ls ++ l ∷ []) × (length (text (ls ++ l ∷ [])) ≤ 65536))
-            (ap₂ (λ (a b : ℕ). end_line a b (mean_of t.waited b)) k.entered k.off ∙ ap (λ (c : ℕ). end_line (ins es) (outs es) (mean_of c (outs es))) k.waited) (
-              wrote ls (line ∷ []) st.at.written st.at.rest (omega arith) (subst (λ (b : List ℕ). Appends w b v) (sym one) z.1),
-              let few = lines_few F P law st.at in
-                  let all = ap length (text_append ls (line ∷ [])) ∙ length-append (text ls) (text (line ∷ [])) in
-                  omega arith,
-            ),
+        subst (λ (l : List Field). Page M v (ls ++ l ∷ []) 65536)
+            (ap₂ (λ (a b : ℕ). end_line a b (mean_of t.waited b)) k.entered k.off ∙ ap (λ (c : ℕ). end_line (ins es) (outs es) (mean_of c (outs es))) k.waited)
+            (page_line line st.at.spent.page (omega (arith, lines_few F P law st.at, short)) z.1),
       )

@@ -5,7 +5,6 @@ use Rattle.std.proofs.lemmas.Nat.{div_below, mod_below, div-add-mod'}
 use Rattle.std.proofs.lemmas.List.{length-append, length-set, get_or-set_same, get_or-set_other, take-append-le, take_all}
 use Rattle.std.proofs.lemmas.Bool.{cases_eq, eq-eqb, ne_eqb, or_parts, or_from, leb-false, lt-leb, le-ltb, not-false, not_from_true, cond-false}
 use Rattle.fabric.specs.Layouts.{Lawful}
-use Rattle.fabric.specs.Verdicts.{Verdict}
 use Rattle.fabric.specs.Verdicts.Verdict.{granted, refused}
 use Rattle.line.specs.Queues.{Queue, Sound, contents, free_places}
 use Rattle.bounds.specs.declared.settings.Settings.{Settings}
@@ -26,29 +25,27 @@ use Rattle.network.proofs.Solving.{led_one, all_told}
 use Rattle.network.proofs.Seen.{seen}
 use Rattle.calls.specs.declared.tables.Tables.{Tables}
 use Rattle.calls.specs.Fits.{Fits}
-use Rattle.calls.specs.Follow.{Follows, Promised}
+use Rattle.calls.specs.Follow.{Promised}
 use Rattle.calls.proofs.Setting.{fits, ticket_below}
 use Rattle.calls.proofs.Offers.{own_ticket}
 use Rattle.text.specs.Texts.{Field, written, text}
 use Rattle.writer.specs.declared.writer.Writer.{Writer}
-use Rattle.writer.specs.Listings.{listed, beyond, Appends}
+use Rattle.writer.specs.Listings.{beyond, Appends}
 use Rattle.runner.specs.declared.tally.Tally.{Tally}
 use Rattle.network.specs.Counts.{offers, entries}
 use Rattle.runner.specs.Listing.{line_of, ins, outs}
 use Rattle.runner.specs.Tallies.{Small, Tallied}
-use Rattle.runner.specs.Progress.{Aimed, Narrow, At}
+use Rattle.runner.specs.Progress.{Aimed, Narrow, most_bytes, Calls, At}
 use Rattle.network.proofs.Counting.{Few, few}
-use Rattle.runner.proofs.Events.{ins_append, outs_append, ins_told, outs_told, Alike, alike, moves, small_told}
-use Rattle.runner.proofs.Pages.{text_append, text_one, text_short, Wrote, wrote}
+use Rattle.runner.proofs.Events.{sums_append, ins_told, outs_told, Alike, alike, moves, small_told}
+use Rattle.runner.proofs.Pages.{text_short, page_room, page_more, page_line}
 
 -- a call that kept its promise
 pub record Moved (F : Fabric) (P : Settings) (j : Tables) (s : State) (k : Call) (o : Outcome) : Type 0 where
   pub state : State
   pub serves : Serves F P s k o state
-  pub run : List Call
-  pub follows : Follows F j run state
-  pub settings : j.settings ≡ P
-  pub kept : Kept F P run state
+  pub calls : Calls F P j state
+  pub kept : Kept F P calls.run state
 
 -- what is known of each packet that was accepted
 narrow_at : (newer older : Log) (u : ℕ) (p : Load) → Narrow (newer ++ (offered u p ∷ older)) → (length p.words ≤ 4) × AllByRecursion (λ v. v < 2 ^ 32) p.words
@@ -64,11 +61,6 @@ length_gathered u (suc m) l =
     let h = length_gathered u m l in
     length-append (gathered u m l) _ ∙ omega arith
 
--- of a verdict that grants: what it grants
-abbrev value_in : Verdict ℕ → ℕ
-value_in (granted k) = k
-value_in (refused k vs) = 0
-
 -- a collection that was granted: what it does, that its ticket is complete, and the words that it brings
 module _ (F : Fabric) (P : Settings) where
   pub collect_did : {s : State} {d n m k : ℕ} {memory m' : List ℕ} {r : State} → Serves F P s (collect d n m memory) (collecting (granted k) m') r →
@@ -83,7 +75,7 @@ module _ (F : Fabric) (P : Settings) where
         let v8 = peel 8 (not (complete u s.log) || not (eqb (aim (packet u s.log)) d)) _ k v4.1 in
         let v9 = peel 9 (ltb (length memory) (size (packet u s.log))) _ k v8.1 in (
           not-false (complete u s.log) (or_parts (not (complete u s.log)) (not (eqb (aim (packet u s.log)) d)) v8.0).0,
-          ap value_in v9.1,
+          let e = v9.1 in cc,
         )
 
     pub collect_taken : take k m' ≡ collection F P s (ticket F P n m)
@@ -94,31 +86,34 @@ module _ (F : Fabric) (P : Settings) where
         let long = length_gathered u (size (packet u s.log)) s.log in
         ap (take k) (collect_did v).1.0 ∙ take-append-le k ws (drop (length ws) memory) (omega (arith, exact, long)) ∙ take_all k ws (omega (arith, exact, long))
 
+-- no listing comes near the end of its memory
+most_few : (k : ℕ) {l : Log} → Few l → k + offers l ≤ 256 → most_bytes k l ≤ 56320
+most_few k h m = omega (arith, h.entered, h.off, h.collected)
+
 module _ (F : Fabric) (P : Settings) (law : Lawful F.plan) {M : List ℕ} {i : Tables} {aims : List (Option ℕ)} {t : Tally} {w : Writer} {s : State} {ls : List (List Field)} {es : List Event} {o : ℕ}
     (a : At F P M i aims t w s ls es o) where
   pub moved : {j : Tables} {k : Call} {x : Outcome} → Promised F i j k x → Moved F P j s k x
   moved {k = k} {x = x} p =
-      let c = p.continues a.run s a.follows in
+      let c = p.continues a.calls.run s a.calls.follows in
+      let same = c.same ∙ a.calls.settings in
       record {
         state = c.state;
-        serves = subst (λ (Q : Settings). Serves F Q s k x c.state) a.settings c.serves;
-        run = k ∷ a.run;
-        follows = c.follows;
-        settings = c.same ∙ a.settings;
-        kept = subst (λ (Q : Settings). Kept F Q (k ∷ a.run) c.state) (c.same ∙ a.settings) c.kept;
+        serves = subst (λ (Q : Settings). Serves F Q s k x c.state) a.calls.settings c.serves;
+        calls = record { run = k ∷ a.calls.run; follows = c.follows; settings = same };
+        kept = subst (λ (Q : Settings). Kept F Q (k ∷ a.calls.run) c.state) same c.kept;
       }
 
   pub accepts : set_up_verdict F.plan P ≡ granted tt
-  accepts = subst (λ (Q : Settings). set_up_verdict F.plan Q ≡ granted tt) a.settings a.follows.lawful
+  accepts = subst (λ (Q : Settings). set_up_verdict F.plan Q ≡ granted tt) a.calls.settings a.calls.follows.lawful
 
   pub sizes : Fits P
   sizes = fits F.plan P accepts
 
-  led : Leads F P a.run s
-  led = subst (λ (Q : Settings). Leads F Q a.run s) a.settings a.follows.leads
+  led : Leads F P a.calls.run s
+  led = subst (λ (Q : Settings). Leads F Q a.calls.run s) a.calls.settings a.calls.follows.leads
 
   pub kept_inv : Inv F P s 0
-  kept_inv = subst (λ (x : State). Inv F P x 0) (sym (led_one F P law led)) (invariant F P law a.run)
+  kept_inv = subst (λ (x : State). Inv F P x 0) (sym (led_one F P law led)) (invariant F P law a.calls.run)
 
   pub most_tickets : all_tickets F.plan P ≤ 512
   most_tickets = ticket_below F law P sizes.few
@@ -126,24 +121,11 @@ module _ (F : Fabric) (P : Settings) (law : Lawful F.plan) {M : List ℕ} {i : T
   pub happens : Few s.log
   happens = few F P law accepts led
 
-  -- no listing comes near the end of its memory
-  pub lines_few : length (text ls) ≤ 56320
-  lines_few =
-      let h = happens in
-      let e = h.entered in
-      let f = h.off in
-      let c = h.collected in
-      let x = a.spent.packets in
-      let y = a.spent.bytes in
-      let m = a.few in
-      omega arith
+  pub lines_few : most_bytes a.spent.declined s.log ≤ 56320
+  lines_few = most_few a.spent.declined happens (omega (arith, a.spent.packets, a.spent.few))
 
   pub room_left : 9216 ≤ length (beyond w)
-  room_left =
-      let h = lines_few in
-      let l : length (listed w) ≡ length (text ls) = ap length a.written in
-      let r = a.room in
-      omega arith
+  room_left = omega (arith, page_room a.spent.page, lines_few)
 
   -- the counts stay small
   pub record TallyFew : Type 0 where
@@ -157,7 +139,7 @@ module _ (F : Fabric) (P : Settings) (law : Lawful F.plan) {M : List ℕ} {i : T
       let e = h.entered in
       let f = h.off in
       let x = a.spent.packets in
-      let m = a.few in
+      let m = a.spent.few in
       let i = a.tallied.entered in
       let j = a.tallied.off in
       let e1 = sym (ins_told s.log) ∙ ap ins a.events in
@@ -165,7 +147,7 @@ module _ (F : Fabric) (P : Settings) (law : Lawful F.plan) {M : List ℕ} {i : T
       let w = a.tallied.short in
       record { entered = omega arith; off = omega arith; waited = omega arith }
 
-  -- what is known of a packet that was accepted
+  -- what a granted offer was tested for, and what it logs
   offer_did : {n m d : ℕ} {ws : List ℕ} {r : State} → Serves F P s (offer n m d ws) (offering (granted tt)) r →
       (offer_verdict F P s n m d ws ≡ granted tt) × (r ≡ with_log F P s (offered (ticket F P n m) (record { destination = d; words = ws })))
   offer_did (offer_granted e) = (e, refl)
@@ -201,23 +183,13 @@ module _ (F : Fabric) (P : Settings) (law : Lawful F.plan) {M : List ℕ} {i : T
         subst (λ (r : State). Serves F P s (offer n m d ws) (offering (granted tt)) r) e.1 y.serves,
         refl,
         record {
-          run = y.run;
-          follows = subst (λ (r : State). Follows F j y.run r) e.1 y.follows;
-          settings = y.settings;
+          calls = subst (λ (r : State). Calls F P j r) e.1 y.calls;
           aimed = aimed_offer u d ws below;
           places = length-set aims u (Some d) ∙ a.places;
           events = a.events;
           narrow = (short, narrow, a.narrow);
           tallied = a.tallied;
-          written = a.written;
-          room = a.room;
-          rest = a.rest;
-          spent = record {
-            declined = a.spent.declined;
-            packets = let x = a.spent.packets in omega arith;
-            bytes = a.spent.bytes;
-          };
-          few = omega arith;
+          spent = record { declined = a.spent.declined; packets = let x = a.spent.packets in omega arith; few = omega arith; page = a.spent.page };
         },
       )
 
@@ -230,33 +202,23 @@ module _ (F : Fabric) (P : Settings) (law : Lawful F.plan) {M : List ℕ} {i : T
       (r : State) × Serves F P s (offer n m d ws) (offering (refused k vs)) r × (r.cycles ≡ s.cycles) × At F P M j aims t w' r (ls ++ line ∷ []) es (o + 1)
   declined_at {j} {w'} n m d k ws vs line p h short app =
       let y = moved p in
-      let e = declined_same y.serves in
-      let one = text_one line in
-      let l1 : length (text (line ∷ [])) ≡ length (written line) = ap length one in
-      let left = room_left in
-      let x : Wrote w w' M (ls ++ line ∷ []) = wrote ls (line ∷ []) a.written a.rest (omega arith) (subst (λ (b : List ℕ). Appends w b w') (sym one) app) in
-      let l2 = ap length (text_append ls (line ∷ [])) ∙ length-append (text ls) (text (line ∷ [])) in (
+      let e = declined_same y.serves in (
         s,
         subst (λ (r : State). Serves F P s (offer n m d ws) (offering (refused k vs)) r) e y.serves,
         refl,
         record {
-          run = y.run;
-          follows = subst (λ (r : State). Follows F j y.run r) e y.follows;
-          settings = y.settings;
+          calls = subst (λ (r : State). Calls F P j r) e y.calls;
           aimed = a.aimed;
           places = a.places;
           events = a.events;
           narrow = a.narrow;
           tallied = a.tallied;
-          written = x.lines;
-          room = let z = x.room in let q = a.room in omega arith;
-          rest = x.rest;
           spent = record {
             declined = a.spent.declined + 1;
             packets = let z = a.spent.packets in omega arith;
-            bytes = let z = a.spent.bytes in omega arith;
+            few = omega arith;
+            page = page_line line a.spent.page (omega arith) app;
           };
-          few = omega arith;
         },
       )
 
@@ -312,25 +274,14 @@ module _ (F : Fabric) (P : Settings) (law : Lawful F.plan) {M : List ℕ} {i : T
         ins_few = omega (arith, e1, few_packets, after.entered);
         outs_few = omega (arith, e2, few_packets, after.off);
         then = λ {t'} {w'} tally app.
-            let x : Wrote w w' M (ls ++ lines) = wrote ls lines a.written a.rest room app in
             record {
-              run = y.run;
-              follows = y.follows;
-              settings = y.settings;
+              calls = y.calls;
               aimed = λ u l. a.aimed u l ∙ sym (ap₂ (λ (b : Bool) (m : Option Load). cond b None (Some (aim m))) (d.alike.free u) (d.alike.packet u));
               places = a.places;
               events = d.told;
               narrow = d.alike.narrow a.narrow;
               tallied = tally;
-              written = x.lines;
-              room = let z = x.room in let m = a.room in omega arith;
-              rest = x.rest;
-              spent = record {
-                declined = a.spent.declined;
-                packets = let m = d.alike.offers in let z = a.spent.packets in omega arith;
-                bytes = omega (arith, e1, e2, e3, e4, short, both, d.alike.collections, a.spent.bytes);
-              };
-              few = a.few;
+              spent = record { declined = a.spent.declined; packets = packets; few = a.spent.few; page = page_more lines a.spent.page longer app };
             };
       }
     where
@@ -347,13 +298,13 @@ module _ (F : Fabric) (P : Settings) (law : Lawful F.plan) {M : List ℕ} {i : T
       lines = map line_of fresh
 
       after : Few y.state.log
-      after = few F P law accepts (subst (λ (Q : Settings). Leads F Q y.run y.state) y.settings y.follows.leads)
+      after = few F P law accepts (subst (λ (Q : Settings). Leads F Q y.calls.run y.state) y.calls.settings y.calls.follows.leads)
 
       e1 : entries y.state.log ≡ ins es + ins fresh
-      e1 = sym (ins_told y.state.log) ∙ ap ins d.told ∙ ins_append es fresh
+      e1 = sym (ins_told y.state.log) ∙ ap ins d.told ∙ (sums_append es fresh).0
 
       e2 : count_off y.state.log ≡ outs es + outs fresh
-      e2 = sym (outs_told y.state.log) ∙ ap outs d.told ∙ outs_append es fresh
+      e2 = sym (outs_told y.state.log) ∙ ap outs d.told ∙ (sums_append es fresh).1
 
       e3 : entries s.log ≡ ins es
       e3 = sym (ins_told s.log) ∙ ap ins a.events
@@ -364,25 +315,17 @@ module _ (F : Fabric) (P : Settings) (law : Lawful F.plan) {M : List ℕ} {i : T
       short : length (text lines) ≤ 20 * (ins fresh + outs fresh)
       short = text_short fresh d.small
 
-      both : length (text (ls ++ lines)) ≡ length (text ls) + length (text lines)
-      both = ap length (text_append ls lines) ∙ length-append (text ls) (text lines)
+      packets : a.spent.declined + offers y.state.log ≡ o
+      packets = omega (arith, d.alike.offers, a.spent.packets)
+
+      longer : most_bytes a.spent.declined s.log + length (text lines) ≤ most_bytes a.spent.declined y.state.log
+      longer = omega (arith, e1, e2, e3, e4, short, d.alike.collections)
 
       room : length (text lines) ≤ length (beyond w)
-      room =
-          let f1 = after.entered in
-          let f2 = after.off in
-          let f3 = after.collected in
-          let o1 = d.alike.offers in
-          let o2 = d.alike.collections in
-          let l : length (listed w) ≡ length (text ls) = ap length a.written in
-          let x = a.spent.packets in
-          let z = a.spent.bytes in
-          let m = a.few in
-          let r = a.room in
-          omega (arith, e1, e2, e3, e4, short)
+      room = omega (arith, page_room a.spent.page, longer, most_few a.spent.declined after (omega (arith, packets, a.spent.few)))
 
       few_packets : offers y.state.log ≤ 256
-      few_packets = omega (arith, d.alike.offers, a.spent.packets, a.few)
+      few_packets = omega (arith, packets, a.spent.few)
 
   -- a cycle for which the line has room is not refused
   cycle_granted_here : {q q' : Queue Event} {k : ℕ} {vs : List ℕ} {r : State} → s.cycles < 65536 → 128 ≤ free_places q → Serves F P s (cycle q) (cycling (refused k vs) q') r → ⊥
@@ -439,7 +382,6 @@ module _ (F : Fabric) (P : Settings) (law : Lawful F.plan) {M : List ℕ} {i : T
   -- what a collection that was granted brings
   pub record Brought (j : Tables) (g d n m k : ℕ) (memory m' : List ℕ) : Type 0 where
     pub whole : complete g s.log ≡ true
-    pub few_words : k ≤ 4
     pub narrow : AllByRecursion (λ v. v < 2 ^ 32) (take k m')
     pub short : length (take k m') ≤ 4
     pub in_memory : k ≤ length m'
@@ -452,7 +394,6 @@ module _ (F : Fabric) (P : Settings) (law : Lawful F.plan) {M : List ℕ} {i : T
   brought_at {j} g d n m k memory m' at p =
       record {
         whole = subst (λ (u : ℕ). complete u s.log ≡ true) at.ticket tested.0;
-        few_words = omega (arith, tested.1, long, offer_of_it.0);
         narrow = subst (λ (x : List ℕ). AllByRecursion (λ v. v < 2 ^ 32) x) (sym taken) offer_of_it.1;
         short = let e = ap length taken in omega (arith, e, offer_of_it.0);
         in_memory = let e = ap length did.1.0 ∙ length-append ws (drop (length ws) memory) in omega (arith, e, tested.1, long);
@@ -460,29 +401,14 @@ module _ (F : Fabric) (P : Settings) (law : Lawful F.plan) {M : List ℕ} {i : T
         serves = subst (λ (r : State). Serves F P s (collect d n m memory) (collecting (granted k) m') r) did.1.1 y.serves;
         counted = refl;
         then = λ {w'} line short app.
-            let one = text_one line in
-            let l1 : length (text (line ∷ [])) ≡ length (written line) = ap length one in
-            let left = room_left in
-            let x : Wrote w w' M (ls ++ line ∷ []) = wrote ls (line ∷ []) a.written a.rest (omega arith) (subst (λ (b : List ℕ). Appends w b w') (sym one) app) in
-            let l2 = ap length (text_append ls (line ∷ [])) ∙ length-append (text ls) (text (line ∷ [])) in
             record {
-              run = y.run;
-              follows = subst (λ (r : State). Follows F j y.run r) did.1.1 y.follows;
-              settings = y.settings;
+              calls = subst (λ (r : State). Calls F P j r) did.1.1 y.calls;
               aimed = subst (λ (u : ℕ). Aimed (all_tickets F.plan P) (set aims g None) (collected u d ws ∷ s.log)) (sym at.ticket) (aimed_collect g d ws at.exists);
               places = length-set aims g None ∙ a.places;
               events = a.events;
               narrow = a.narrow;
               tallied = a.tallied;
-              written = x.lines;
-              room = let z = x.room in let q = a.room in omega arith;
-              rest = x.rest;
-              spent = record {
-                declined = a.spent.declined;
-                packets = a.spent.packets;
-                bytes = let z = a.spent.bytes in omega arith;
-              };
-              few = a.few;
+              spent = record { declined = a.spent.declined; packets = a.spent.packets; few = a.spent.few; page = page_line line a.spent.page (omega arith) app };
             };
       }
     where
@@ -498,8 +424,8 @@ module _ (F : Fabric) (P : Settings) (law : Lawful F.plan) {M : List ℕ} {i : T
       did : (collect_verdict F P s d n m memory ≡ granted k) × ((m' ≡ over ws memory) × (y.state ≡ with_log F P s (collected u d ws)))
       did = collect_did F P y.serves
 
-      kept_so : Kept F P y.run (with_log F P s (collected u d ws))
-      kept_so = subst (λ (r : State). Kept F P y.run r) did.1.1 y.kept
+      kept_so : Kept F P y.calls.run (with_log F P s (collected u d ws))
+      kept_so = subst (λ (r : State). Kept F P y.calls.run r) did.1.1 y.kept
 
       offer_of_it : (length ws ≤ 4) × AllByRecursion (λ v. v < 2 ^ 32) ws
       offer_of_it =
@@ -525,19 +451,13 @@ module _ (F : Fabric) (P : Settings) (law : Lawful F.plan) {M : List ℕ} {i : T
   left_at {j} g d n m k memory m' vs at b long p = (
     go (complete g s.log) refl,
     record {
-      run = y.run;
-      follows = subst (λ (r : State). Follows F j y.run r) did.1 y.follows;
-      settings = y.settings;
+      calls = subst (λ (r : State). Calls F P j r) did.1 y.calls;
       aimed = a.aimed;
       places = a.places;
       events = a.events;
       narrow = a.narrow;
       tallied = a.tallied;
-      written = a.written;
-      room = a.room;
-      rest = a.rest;
       spent = a.spent;
-      few = a.few;
     },
   )
     where

@@ -1,6 +1,7 @@
 -- The events of a cycle, one after another.
-use Rattle.std.proofs.Common.{◌≡◌, ℕ, ◌+◌, ◌-◌, ◌*◌, ◌≤◌, List, [], ◌∷◌, ◌++◌, map, length, drop, Ok, Err, Result, sym, refl, ap, ◌∙◌, subst, ap₂, append_assoc, append-nil, arith}
-use Rattle.std.proofs.lemmas.List.{length-append, length-drop, drop-drop}
+use Rattle.std.proofs.Common.{◌≡◌, ℕ, ◌+◌, ◌-◌, ◌*◌, ◌≤◌, List, [], ◌∷◌, ◌++◌, map, length, Ok, Err, Result, sym, refl, ap, ◌∙◌, subst, ap₂, append_assoc, arith}
+use Rattle.std.proofs.lemmas.List.{length-append, length-drop, map-append}
+use Rattle.std.proofs.lemmas.Grind.{flat_map-append}
 use Rattle.fabric.specs.declared.refusal.Refusal.{Refusal}
 use Rattle.fabric.specs.Refusals.{shown}
 use Rattle.fabric.specs.Verdicts.{Verdict}
@@ -10,25 +11,22 @@ use Rattle.network.specs.declared.event.Kind.{Kind}
 use Rattle.network.specs.declared.event.Kind.TheVariants.{In, Out}
 use Rattle.text.specs.Texts.{Field, written, text}
 use Rattle.writer.specs.declared.writer.Writer.{Writer}
-use Rattle.writer.specs.Listings.{listed, beyond, Appends, LineOut, event_line}
+use Rattle.writer.specs.Listings.{beyond, Appends, LineOut, event_line}
 use Rattle.writer.proofs.Outcomes.{with_room}
+use Rattle.writer.proofs.Written.{appends_both}
 use Rattle.runner.specs.declared.tally.Tally.{Tally}
 use Rattle.network.specs.Kinds.{kind_word}
 use Rattle.runner.specs.Listing.{line_of, enters, leaves}
 use Rattle.runner.specs.Tallies.{Counts, Tellable, Told}
-use Rattle.runner.proofs.Events.{ins_append, outs_append, under_way_append}
-use Rattle.runner.proofs.Pages.{text_append, text_one}
+use Rattle.runner.proofs.Events.{sums_append, sums_cons}
+use Rattle.runner.proofs.Pages.{text_one}
 
 pub ok_shown : (r : Result (Unit {0}) Refusal) → shown r ≡ granted tt → r ≡ Ok tt
 ok_shown (Ok tt) e = refl
 ok_shown (Err x) e = cc
 
-map_both : (a b : List Event) → map line_of (a ++ b) ≡ map line_of a ++ map line_of b
-map_both [] b = refl
-map_both (e ∷ a) b = ap (λ (x : List (List Field)). line_of e ∷ x) (map_both a b)
-
 text_both : (a b : List Event) → text (map line_of (a ++ b)) ≡ text (map line_of a) ++ text (map line_of b)
-text_both a b = ap text (map_both a b) ∙ text_append (map line_of a) (map line_of b)
+text_both a b = ap text (map-append line_of a b) ∙ flat_map-append written (map line_of a) (map line_of b)
 
 -- the line of an event, by the words and numbers that were handed over
 pub as_line : {w w' : Writer} {v : Verdict (Unit {0})} (e : Event) {kind : List ℕ} {a b c : ℕ} → kind ≡ kind_word e.kind → a ≡ e.ticket → b ≡ e.number → c ≡ e.node →
@@ -65,16 +63,11 @@ told_more : {t u v : Tally} {w x y : Writer} (a b : List Event) → Told t w a u
 told_more {t} {u} {v} {w} {x} {y} a b m n =
     record {
       counts = record {
-        entered = let c = m.counts.entered in let d = n.counts.entered in let e = ins_append a b in omega arith;
-        off = let c = m.counts.off in let d = n.counts.off in let e = outs_append a b in omega arith;
-        waited = let c = m.counts.waited in let d = n.counts.waited in let e = under_way_append a b in omega arith;
+        entered = let c = m.counts.entered in let d = n.counts.entered in let e = (sums_append a b).0 in omega arith;
+        off = let c = m.counts.off in let d = n.counts.off in let e = (sums_append a b).1 in omega arith;
+        waited = let c = m.counts.waited in let d = n.counts.waited in let e = (sums_append a b).2 in omega arith;
       };
-      appends = record {
-        listed = n.appends.listed ∙ ap (λ (z : List ℕ). z ++ text (map line_of b)) m.appends.listed ∙ append_assoc (listed w) _ _ ∙ ap (λ (z : List ℕ). listed w ++ z) (sym (text_both a b));
-        beyond =
-            n.appends.beyond ∙ ap (drop (length (text (map line_of b)))) m.appends.beyond ∙ drop-drop (length (text (map line_of b))) (length (text (map line_of a))) (beyond w)
-            ∙ ap (λ (k : ℕ). drop k (beyond w)) (sym (ap length (text_both a b) ∙ length-append (text (map line_of a)) (text (map line_of b))));
-      };
+      appends = subst (λ (z : List ℕ). Appends w z y) (sym (text_both a b)) (appends_both w x y (text (map line_of a)) (text (map line_of b)) m.appends n.appends);
       waited = n.waited;
     }
 
@@ -85,19 +78,7 @@ pub record Telling (t₀ : Tally) (w₀ : Writer) (es : List Event) (t : Tally) 
   pub told : Told t₀ w₀ done t w
   pub tellable : Tellable t w rest
 
--- the next event can be told by itself
-pub first : {t : Tally} {w : Writer} (e : Event) (rest : List Event) → Tellable t w (e ∷ rest) → Tellable t w (e ∷ [])
-first e rest h =
-    let one = ap length (text_one (line_of e)) in
-    let all = length-append (written (line_of e)) (text (map line_of rest)) in
-    record {
-      small = (h.small.0, tt);
-      room = let z = h.room in omega arith;
-      few_in = let z = h.few_in in omega arith;
-      few_out = let z = h.few_out in omega arith;
-      waited = h.waited;
-    }
-
+-- the next event is told
 pub next : {t₀ t t' : Tally} {w₀ w w' : Writer} {es : List Event} (e : Event) (rest : List Event) → Telling t₀ w₀ es t w (e ∷ rest) → Told t w (e ∷ []) t' w' → Telling t₀ w₀ es t' w' rest
 next {w = w} {w' = w'} e rest h m =
     let k = h.tellable in
@@ -111,12 +92,8 @@ next {w = w} {w' = w'} e rest h m =
       tellable = record {
         small = k.small.1;
         room = let z = k.room in omega arith;
-        few_in = let z = k.few_in in let c = m.counts.entered in omega arith;
-        few_out = let z = k.few_out in let c = m.counts.off in omega arith;
+        few_in = let z = k.few_in in let s = (sums_cons e rest).0 in let c = m.counts.entered in omega arith;
+        few_out = let z = k.few_out in let s = (sums_cons e rest).1 in let c = m.counts.off in omega arith;
         waited = m.waited;
       };
     }
-
--- all events are told
-pub all_told : {t₀ t : Tally} {w₀ w : Writer} {es : List Event} → Telling t₀ w₀ es t w [] → Told t₀ w₀ es t w
-all_told {t₀} {t} {w₀} {w} h = subst (λ (x : List Event). Told t₀ w₀ x t w) (sym (h.split ∙ append-nil h.done)) h.told

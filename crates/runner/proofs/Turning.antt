@@ -2,7 +2,7 @@
 use Rattle.std.proofs.Common.{◌≡◌, ℕ, ◌+◌, ◌*◌, ◌<◌, ◌≤◌, List, [], ◌∷◌, ◌++◌, map, length, sym, refl, ap, ◌∙◌, subst, subst₂, append_assoc, append-nil, arith}
 use Rattle.std.specs.List.{AllByRecursion}
 use Rattle.std.proofs.lemmas.List.{length-append}
-use Rattle.std.proofs.ByRecursion.{All-append}
+use Rattle.std.proofs.SliceLists.{all_by_recursion_push}
 use Rattle.bounds.specs.declared.settings.Settings.{Settings}
 use Rattle.network.specs.declared.event.Event.{Event}
 use Rattle.network.specs.Cycle.{Fabric, State}
@@ -52,7 +52,7 @@ module _ {A B : Type 0} (F : Fabric) (P : Settings) (c : ℕ) {M : List ℕ} {s 
       record {
         due = d.due ++ p ∷ [];
         split = d.split ∙ sym (append_assoc d.due (p ∷ []) rest);
-        each_due = All-append (λ (q : Packet). q.cycle ≡ c) d.due (p ∷ []) d.each_due (e, tt);
+        each_due = all_by_recursion_push (λ (q : Packet). q.cycle ≡ c) d.due p d.each_due e;
         state = k.state;
         more = d.more ++ k.more;
         offers = k.offers s d.due d.more d.offers;

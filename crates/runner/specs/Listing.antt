@@ -1,6 +1,6 @@
 -- The listing of a run sheet: what the calls of its run are answered, line by line.
 use Rattle.std.specs.Prelude.{◌≡◌, ℕ, ◌+◌, ◌-◌, ◌*◌, ◌/◌, ◌<◌, true, false, cond, List, [], ◌∷◌, ◌++◌, map, take, Some, None, Option, ◌==◌}
-use Rattle.std.specs.List.{AllByRecursion}
+use Rattle.std.specs.List.{AllByRecursion, sum_by}
 use Rattle.fabric.specs.Verdicts.Verdict.{granted, refused}
 use Rattle.line.specs.Queues.{Queue}
 use Rattle.bounds.specs.declared.settings.Settings.{Settings}
@@ -35,17 +35,14 @@ leaves In = 0
 leaves Out = 1
 
 abbrev pub ins : List Event → ℕ
-ins [] = 0
-ins (e ∷ es) = enters e.kind + ins es
+ins es = sum_by (λ e. enters e.kind) es
 
 abbrev pub outs : List Event → ℕ
-outs [] = 0
-outs (e ∷ es) = leaves e.kind + outs es
+outs es = sum_by (λ e. leaves e.kind) es
 
 -- the cycles for which those taken off were under way, added up
 abbrev pub under_way : List Event → ℕ
-under_way [] = 0
-under_way (e ∷ es) = leaves e.kind * (e.cycle - e.entered) + under_way es
+under_way es = sum_by (λ e. leaves e.kind * (e.cycle - e.entered)) es
 
 -- the mean over those taken off, in tenths, cut off; none if none came off
 abbrev pub mean_of : ℕ → ℕ → Option ℕ

@@ -33,11 +33,24 @@ use Rattle.runner.specs.Tallies.{Tallied}
 abbrev pub Aimed : ℕ → List (Option ℕ) → Log → Type 0
 Aimed G aims l = (t : ℕ) → t < G → slice_index_or aims t None ≡ cond (free t l) None (Some (aim (packet t l)))
 
--- the lines are no longer than what happened may have made them, after o packets of which some were refused
-pub record Spent (ls : List (List Field)) (l : Log) (o : ℕ) : Type 0 where
+-- these lines, of b bytes at most, are written at the start of the memory M, which is long enough for every listing
+pub record Page (M : List ℕ) (w : Writer) (ls : List (List Field)) (b : ℕ) : Type 0 where
+  pub written : listed w ≡ text ls
+  -- what lies beyond them is as it was
+  pub rest : beyond w ≡ drop (length (text ls)) M
+  pub long : 65536 ≤ length M
+  pub bytes : length (text ls) ≤ b
+
+-- what happened, with k packets refused, has lines of no more bytes
+abbrev pub most_bytes : ℕ → Log → ℕ
+most_bytes k l = 60 * k + (20 * entries l + (20 * count_off l + 60 * collections l))
+
+-- these lines are written of what happened when o packets were offered, of which some were refused
+pub record Spent (M : List ℕ) (w : Writer) (ls : List (List Field)) (l : Log) (o : ℕ) : Type 0 where
   pub declined : ℕ
   pub packets : declined + offers l ≡ o
-  pub bytes : length (text ls) ≤ 60 * declined + (20 * entries l + (20 * count_off l + 60 * collections l))
+  pub few : o ≤ 256
+  pub page : Page M w ls (most_bytes declined l)
 
 -- each packet that was accepted has at most four words, of 32 bits
 abbrev pub Narrow : Log → Type 0
@@ -47,28 +60,31 @@ Narrow (entered f n ∷ l) = Narrow l
 Narrow (off f n c ∷ l) = Narrow l
 Narrow (collected t r ws ∷ l) = Narrow l
 
--- the network stands in state s after o packets were offered, and these lines are written of these events, at the start of the memory M
-pub record At (F : Fabric) (P : Settings) (M : List ℕ) (i : Tables) (aims : List (Option ℕ)) (t : Tally) (w : Writer) (s : State) (ls : List (List Field)) (es : List Event) (o : ℕ) : Type 0 where
+-- the calls that led the tables to state s
+pub record Calls (F : Fabric) (P : Settings) (i : Tables) (s : State) : Type 0 where
   pub run : List Call
   pub follows : Follows F i run s
   pub settings : i.settings ≡ P
+
+-- the network stands in state s after o packets were offered, and these lines are written of these events, at the start of the memory M
+pub record At (F : Fabric) (P : Settings) (M : List ℕ) (i : Tables) (aims : List (Option ℕ)) (t : Tally) (w : Writer) (s : State) (ls : List (List Field)) (es : List Event) (o : ℕ) : Type 0 where
+  pub calls : Calls F P i s
   pub aimed : Aimed (all_tickets F.plan P) aims s.log
   pub places : length aims ≡ 512
   pub events : told s.log ≡ es
   pub narrow : Narrow s.log
   pub tallied : Tallied t es
-  pub written : listed w ≡ text ls
-  pub room : 65536 ≤ length (listed w) + length (beyond w)
-  -- of the memory M, what lies beyond the listing is as it was
-  pub rest : beyond w ≡ drop (length (text ls)) M
-  pub spent : Spent ls s.log o
-  pub few : o ≤ 256
+  pub spent : Spent M w ls s.log o
 
 -- the same of a session, of which the sizes are known
 pub record Stands {A B : Type 0} (F : Fabric) (P : Settings) (M : List ℕ) (x : Session A B) (w : Writer) (s : State) (ls : List (List Field)) (es : List Event) (o : ℕ) : Type 0 where
   pub at : At F P M x.network.inner x.aims x.tally w s ls es o
   pub nodes : x.nodes ≡ F.plan.nodes
   pub tickets : x.tickets ≡ P.tickets
+
+-- wherever the session may stand
+abbrev pub Wherever : {A B : Type 0} → Fabric → Session A B → Writer → (Settings → List ℕ → State → List (List Field) → List Event → ℕ → Type 0) → Type 0
+Wherever F x w Q = (P : Settings) (M : List ℕ) (s : State) (ls : List (List Field)) (es : List Event) (o : ℕ) → Stands F P M x w s ls es o → Q P M s ls es o
 
 -- a session under way in a sheet's run
 pub record Going {A B : Type 0} (F : Fabric) (x : Session A B) (w : Writer) : Type 0 where
@@ -94,7 +110,7 @@ pub record OfferedFrom {A B : Type 0} (F : Fabric) (P : Settings) (M : List ℕ)
   pub stands : Stands F P M y v state (ls ++ more) es (o + 1)
 
 abbrev pub Offered : {A B : Type 0} → Fabric → Packet → Session A B → Writer → Session A B → Writer → Type 0
-Offered F p x w y v = (P : Settings) (M : List ℕ) (s : State) (ls : List (List Field)) (es : List Event) (o : ℕ) → Stands F P M x w s ls es o → o < 256 → OfferedFrom F P M p y v s ls es o
+Offered F p x w y v = Wherever F x w (λ P M s ls es o. o < 256 → OfferedFrom F P M p y v s ls es o)
 
 -- the packets that come yet: the next one, and those behind it
 abbrev pub to_come : Option Packet → List Packet → List Packet
@@ -133,8 +149,7 @@ pub record DueFrom {A B : Type 0} (F : Fabric) (P : Settings) (M : List ℕ) (c 
   pub stands : Stands F P M y v state (ls ++ more) es (o + length due)
 
 abbrev pub Due : {A B : Type 0} → Fabric → ℕ → List Packet → List Packet → Session A B → Writer → Session A B → Writer → Type 0
-Due F c coming later x w y v =
-    (P : Settings) (M : List ℕ) (s : State) (ls : List (List Field)) (es : List Event) (o : ℕ) → Stands F P M x w s ls es o → o + length coming ≤ 256 → DueFrom F P M c coming later y v s ls es o
+Due F c coming later x w y v = Wherever F x w (λ P M s ls es o. o + length coming ≤ 256 → DueFrom F P M c coming later y v s ls es o)
 
 -- the packets that are left can be offered in later cycles
 pub record Left (c : ℕ) (later : List Packet) : Type 0 where
@@ -152,8 +167,7 @@ pub record CycledFrom {A B : Type 0} (F : Fabric) (P : Settings) (M : List ℕ) 
   pub stands : Stands F P M y v state (ls ++ map line_of (puts serves)) (es ++ puts serves) o
 
 abbrev pub Cycled : {A B : Type 0} → Fabric → Session A B → Writer → Session A B → Writer → Type 0
-Cycled F x w y v =
-    (P : Settings) (M : List ℕ) (s : State) (ls : List (List Field)) (es : List Event) (o : ℕ) → Stands F P M x w s ls es o → s.cycles < 65536 → CycledFrom F P M y v s ls es o
+Cycled F x w y v = Wherever F x w (λ P M s ls es o. s.cycles < 65536 → CycledFrom F P M y v s ls es o)
 
 -- a session that is not at its last cycle
 pub record Early {A B : Type 0} (F : Fabric) (x : Session A B) (w : Writer) : Type 0 where
@@ -169,8 +183,7 @@ pub record TriedFrom {A B : Type 0} (F : Fabric) (P : Settings) (M : List ℕ) (
   pub stands : Stands F P M y v state (ls ++ more) es o
 
 abbrev pub Tried : {A B : Type 0} → Fabric → ℕ → ℕ → Session A B → Writer → Session A B → Writer → Type 0
-Tried F c g x w y v =
-    (P : Settings) (M : List ℕ) (s : State) (ls : List (List Field)) (es : List Event) (o : ℕ) → Stands F P M x w s ls es o → TriedFrom F P M c g y v s ls es o
+Tried F c g x w y v = Wherever F x w (λ P M s ls es o. TriedFrom F P M c g y v s ls es o)
 
 -- the complete tickets below g were collected
 pub record CollectedFrom {A B : Type 0} (F : Fabric) (P : Settings) (M : List ℕ) (c g : ℕ) (y : Session A B) (v : Writer) (s : State) (ls : List (List Field)) (es : List Event) (o : ℕ) : Type 0 where
@@ -181,8 +194,7 @@ pub record CollectedFrom {A B : Type 0} (F : Fabric) (P : Settings) (M : List �
   pub stands : Stands F P M y v state (ls ++ more) es o
 
 abbrev pub Collected : {A B : Type 0} → Fabric → ℕ → ℕ → Session A B → Writer → Session A B → Writer → Type 0
-Collected F c g x w y v =
-    (P : Settings) (M : List ℕ) (s : State) (ls : List (List Field)) (es : List Event) (o : ℕ) → Stands F P M x w s ls es o → CollectedFrom F P M c g y v s ls es o
+Collected F c g x w y v = Wherever F x w (λ P M s ls es o. CollectedFrom F P M c g y v s ls es o)
 
 -- one cycle of the run, from its offers to its collections
 pub record TurnedFrom {A B : Type 0} (F : Fabric) (P : Settings) (M : List ℕ) (c : ℕ) (coming later : List Packet) (y : Session A B) (v : Writer) (s : State) (ls : List (List Field)) (es : List Event) (o : ℕ) : Type 0 where
@@ -196,8 +208,7 @@ pub record TurnedFrom {A B : Type 0} (F : Fabric) (P : Settings) (M : List ℕ) 
   pub stands : Stands F P M y v state (ls ++ more) (es ++ news) (o + length due)
 
 abbrev pub Turned : {A B : Type 0} → Fabric → ℕ → List Packet → List Packet → Session A B → Writer → Session A B → Writer → Type 0
-Turned F c coming later x w y v =
-    (P : Settings) (M : List ℕ) (s : State) (ls : List (List Field)) (es : List Event) (o : ℕ) → Stands F P M x w s ls es o → s.cycles ≡ c → o + length coming ≤ 256 → TurnedFrom F P M c coming later y v s ls es o
+Turned F c coming later x w y v = Wherever F x w (λ P M s ls es o. s.cycles ≡ c → o + length coming ≤ 256 → TurnedFrom F P M c coming later y v s ls es o)
 
 -- a session whose network was just set up, with all its packets to come
 pub record Begun {A B : Type 0} (F : Fabric) (cycles : ℕ) (ps : List Packet) (x : Session A B) (w : Writer) : Type 0 where

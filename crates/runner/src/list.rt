@@ -18,13 +18,11 @@ use switch::bless::Bless;
 use switch::chipper::Chipper;
 use switch::switch::Switch;
 use text::fault::Fault;
-use text::parts::{Packet, Shape, SwitchKind};
+use text::parts::{MOST_PACKETS, Packet, Shape, SwitchKind};
 use writer::Writer;
 
 // No listing is longer; a shorter memory is refused.
 pub const MEMORY: usize = 65536;
-
-const PACKETS: usize = 256;
 
 // The sheet's run in a network of this layout and this switch.
 fn start<L: Layout + Drop, S: Switch + Drop>(
@@ -48,7 +46,7 @@ fn start<L: Layout + Drop, S: Switch + Drop>(
         aims: [None; TICKETS],
         tally: Tally::default(),
     };
-    let mut places = [Packet::default(); PACKETS];
+    let mut places = [Packet::default(); MOST_PACKETS];
     let mut planned = Planned::new(sheet.packets(), &mut places)?;
     session.play(sheet.run.cycles, &mut planned, writer)
 }

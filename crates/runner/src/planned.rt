@@ -32,10 +32,7 @@ impl<'a> Planned<'a> {
         ensures due { MatchOption result ((coming self.new ≡ coming self.old) × NoneDue cycle (coming self.old)) (λ p. (p.cycle ≡ cycle) × (coming self.old ≡ p ∷ coming self.new)) }
         ensures lender { SamePlaces self.old self.new }
     {
-        let packet = self.next?;
-        if packet.cycle != cycle {
-            return None;
-        }
+        let packet = self.next.filter(|packet| packet.cycle == cycle)?;
         self.next = self.rest.take();
         Some(packet)
     }

@@ -10,8 +10,7 @@ mod turns;
 pub(crate) const TICKETS: usize = 512;
 
 // A network under way, and what its listing needs beside it.
-// Each step, and each of the tally, hands a refusal of the writer up, as refusals go by `?`, though none comes: that it is
-// `Ok` is a fact of the call, and of no value.
+// Each step passes a refusal of the writer up by `?`, though its contract says that it answers `Ok`: the type can't say so.
 #[derive(Drop)]
 pub(crate) struct Session<L, S> {
     pub network: Network<L, S>,

@@ -18,12 +18,12 @@ length_event c t k n kind hc hw ht hk hn =
       length-decimal-le 2 n (omega arith) (omega arith) (omega arith),
     )
 
-pub length_no : (c r n o : ℕ) → c < 2 ^ 32 → r < 100 → n < 2 ^ 32 → o < 2 ^ 32 → length (written (no_line c r n o)) ≤ 60
+pub length_no : (c r n o : ℕ) → c < 2 ^ 32 → r < 1000 → n < 2 ^ 32 → o < 2 ^ 32 → length (written (no_line c r n o)) ≤ 60
 length_no c r n o hc hr hn ho =
     omega (
       arith,
       length_written (number c) (word (codes "no") ∷ number r ∷ number n ∷ number o ∷ []),
-      length-decimal-le 2 r (omega arith) (omega arith) (omega arith),
+      length-decimal-le 3 r (omega arith) (omega arith) (omega arith),
       digits_ten c hc,
       digits_ten n hn,
       digits_ten o ho,
@@ -43,7 +43,7 @@ length_done c t ws hc ht l h =
       spread_words ws h,
     )
 
--- the mean, in tenths, if there is one
+-- the last line has at most 64 bytes
 pub length_end : (a b : ℕ) (m : Option ℕ) → a < 2 ^ 32 → b < 2 ^ 32 → IfSome m (λ t. t < 2 ^ 32) → length (written (end_line a b m)) ≤ 64
 length_end a b m ha hb hm = omega (arith, length_written (word (codes "end")) (number a ∷ number b ∷ word (mean_word m) ∷ []), digits_ten a ha, digits_ten b hb, length_mean_le m hm)
   where

@@ -25,7 +25,7 @@ pub puts_both : (w v u : Writer) (a b : List ℕ) → Puts w a v → Puts v b u 
 puts_both w v u a b f g =
     record { appends = appends_both w v u a b f.appends g.appends; lender = g.lender ∙ f.lender; room = omega (arith, length-append a b) }
 
--- the digits of a number
+-- a number has one digit more than its tenth
 pub length_step : (n : ℕ) → 10 ≤ n → n < 2 ^ 32 → length (decimal n) ≡ length (decimal (n / 10)) + 1
 length_step n h k = ap length (decimal_step n h (omega arith)) ∙ length_push (decimal (n / 10)) (48 + n % 10)
 

@@ -4,7 +4,7 @@ ghost use Rattle.std.specs.Prelude.{◌≤◌, length};
 mod lines;
 mod steps;
 
-// The first `len` bytes of the memory are written. It is lent by the caller, so no vector or batch can keep the count.
+// The first `len` bytes of the memory are written. The count stands here, since the memory is a plain slice of the caller's.
 #[derive(Drop)]
 pub struct Writer<'a> {
     memory: &'a mut [u8],

@@ -25,7 +25,7 @@ impl<'a> Writer<'a> {
         self.len
     }
 
-    // A flit enters or is taken off. The word is bytes, and any are taken: a narrower type would ask more of callers.
+    // A flit enters or is taken off. Any bytes do as the word: the writer does not judge them.
     pub fn event(
         &mut self,
         cycle: u32,
@@ -40,7 +40,7 @@ impl<'a> Writer<'a> {
         self.stamped(cycle, kind, ticket, &[flit, node])
     }
 
-    // A packet is refused, by any number: a narrower type would ask more of callers.
+    // A packet is refused. Any number does as the refusal: the writer does not judge it.
     pub fn no(&mut self, cycle: u32, refusal: u32, node: u32, own: u32) -> Result<(), Refusal>
         ensures line { LineOut self.old (no_line cycle refusal node own) self.new (shown result) }
         ensures lender { SameLender self.old self.new }

@@ -13,6 +13,7 @@ use Rattle.runner.specs.Progress.{Left}
 use Rattle.runner.proofs.Beginning.{at_first, all_left, ran}
 use Rattle.runner.proofs.Fabrics.{same_fabric, then_same}
 use Rattle.runner.proofs.list.start.Goals as goal
+use Rattle.runner.proofs.list.start.Goals.{After-play-arg-1}
 
 pub play-requires : goal.play-requires
 play-requires g c =
@@ -34,14 +35,12 @@ play-requires g c =
     }
 
 pub returns-clause-ran : goal.returns-clause-ran
+unfolding play-requires
 returns-clause-ran g c =
     let s = said c.args.sheet.now in
     let e = c.in_ok-set_up.ensures in
     let same = same_fabric g.L.Layout.plan g.S.Switch.turn (then_same c.new-network.ensures.parts e.parts) in
-    let begins =
-    subst (λ (F : Fabric). Begins F c.settings-settings.result c.set_up.new.self.inner) (sym (same_fabric g.L.Layout.plan g.S.Switch.turn e.parts)) (e.begins refl) in
-    let tallied : Tallied c.default.result [] = record { entered = c.default.ensures.0; off = c.default.ensures.1.0; waited = c.default.ensures.1.1; short = omega arith } in
-    let stands = at_first begins c.requires.1 (c.nodes-nodes.ensures ∙ ap (λ (F : Fabric). F.plan.nodes) (sym same)) refl refl tallied in
+    let stands = (play-requires g (goal.at.returns-clause-ran g c).After-play-arg-1).stands in
     let verdict : granted tt ≡ set_up_verdict (g.L.Layout.plan c.set_up.new.self.layout) c.settings-settings.result =
     subst (λ (a : g.row.L.Denot). granted tt ≡ set_up_verdict (g.L.Layout.plan a) c.settings-settings.result) (sym e.parts.0) e.exact in
     let m = c.play.ensures.played in

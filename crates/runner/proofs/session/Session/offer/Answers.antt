@@ -1,8 +1,8 @@
-use Rattle.std.proofs.Common.{ℕ, refl, ◌∙◌, subst}
+use Rattle.std.proofs.Common.{ℕ, ◌<◌, refl, ◌∙◌, subst, arith}
 use Rattle.calls.specs.Networks.{fabric_of}
 use Rattle.writer.specs.Listings.{LineOut, no_line}
-use Rattle.fabric.specs.Refusals.{shown}
-use Rattle.runner.proofs.Sessions.{place_below, took, refuses, number_small}
+use Rattle.fabric.specs.Refusals.{shown, number}
+use Rattle.runner.proofs.Sessions.{place_below, took, refuses}
 use Rattle.runner.proofs.session.Session.offer.Goals as goal
 
 pub bounds-self-node : goal.bounds-self-node
@@ -32,7 +32,7 @@ returns-in-Err-clause-offered g c =
     let p = c.args.packet in
     let x = c.requires.0 in
     let k = c.from-number.ensures ∙ c.number.ensures in
-    let small = number_small c.in-Err.refusal in
+    let small : number c.in-Err.refusal < 1000 = let h = c.number.type_inv in let e = c.number.ensures in omega arith in
     let out = subst (λ (m : ℕ). LineOut c.args.writer.now (no_line p.cycle m p.node p.own) c.no.new.self (shown c.no.result)) k c.no.ensures.line in (
       (refuses F x.settings law x.stands p _ _ c.no.result c.requires.1 small e.promised out).0,
       λ P M s ls es o st h.

@@ -92,8 +92,8 @@ returns-clause-played g c =
               turns = subst (λ (m : ℕ). Turns F P (coming c.args.planned.now) m (coming l.planned) h.state h.lines h.events) last h.turns;
               bytes = refl;
             };
-            written = w.0.lines;
-            rest = w.0.rest;
-            short = w.1;
+            written = w.written;
+            rest = w.rest;
+            short = w.bytes;
           },
     )

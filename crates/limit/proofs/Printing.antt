@@ -1,0 +1,34 @@
+-- A way as it is printed, hop by hop.
+use Rattle.std.proofs.Common.{◌≡◌, ℕ, ◌+◌, ◌<◌, List, [], ◌∷◌, ◌++◌, map, length, take, get_or, decimal, sym, ap, ◌∙◌}
+use Rattle.std.specs.List.{flat_map}
+use Rattle.std.proofs.lemmas.List.{take_more, append-nil, map-append}
+use Rattle.std.proofs.lemmas.Grind.{flat_map-append}
+use Rattle.fabric.specs.Ports.{letter}
+use Rattle.bounds.specs.declared.path.Hop.{Hop}
+use Rattle.text.specs.Texts.{Field, word, number, shown}
+
+abbrev hop_fields : Hop → List Field
+hop_fields h = number h.node ∷ word (letter h.port) ∷ []
+
+-- the bytes of fields, each after a space
+abbrev pub spread : List Field → List ℕ
+spread fs = flat_map (λ v. 32 ∷ v) (map shown fs)
+
+abbrev pub steps : List Hop → List ℕ
+steps hops = spread (flat_map hop_fields hops)
+
+spread_both : (a b : List Field) → spread (a ++ b) ≡ spread a ++ spread b
+spread_both a b = ap (flat_map (λ v. 32 ∷ v)) (map-append shown a b) ∙ flat_map-append (λ v. 32 ∷ v) (map shown a) (map shown b)
+
+-- one hop more
+pub one_more : (hops : List Hop) (i : ℕ) (d : Hop) → i < length hops → steps (take i hops) ++ (32 ∷ decimal (get_or hops i d).node ++ 32 ∷ letter (get_or hops i d).port) ≡ steps (take (i + 1) hops)
+one_more hops i d l =
+    let h = get_or hops i d in
+    ap (λ (bs : List ℕ). steps (take i hops) ++ (32 ∷ decimal h.node ++ 32 ∷ bs)) (sym (append-nil (letter h.port)))
+    ∙ sym (spread_both (flat_map hop_fields (take i hops)) (hop_fields h ++ []))
+    ∙ ap spread (sym (flat_map-append hop_fields (take i hops) (h ∷ [])))
+    ∙ ap steps (sym (take_more hops i d l))
+
+-- the node at which they end
+pub at_end : (hops : List Hop) (to : ℕ) → steps hops ++ 32 ∷ decimal to ≡ spread (flat_map hop_fields hops ++ number to ∷ [])
+at_end hops to = ap (λ (bs : List ℕ). steps hops ++ 32 ∷ bs) (sym (append-nil (decimal to))) ∙ sym (spread_both (flat_map hop_fields hops) (number to ∷ []))
