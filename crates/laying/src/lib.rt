@@ -1,12 +1,11 @@
 // Lays out what a sheet names: its layout and its settings, or the fault at the line that is refused.
 #![tactic(auto)]
 
-ghost use Rattle.std.specs.Prelude.{◌≡◌, ℕ, ◌≤◌, [], slice_index};
-ghost use Rattle.fabric.specs.Refusals.{number, numbered};
+ghost use Rattle.std.specs.Prelude.{◌≡◌, ℕ, ◌+◌, ◌≤◌, [], slice_index, MatchResult};
+ghost use Rattle.fabric.specs.Refusals.{numbered};
 ghost use Rattle.cabled.specs.Plans.{plan_of};
 ghost use Rattle.text.specs.declared.fault.Layer.TheVariants.{Network};
 ghost use Rattle.text.specs.declared.parts.Shape.{Shape as Form};
-ghost use Rattle.text.specs.Faults.{told};
 ghost use Rattle.laying.specs.Layings.{layout_line, Laid, settings_of};
 ghost use Rattle.laying.specs.Reports.{reported};
 
@@ -48,9 +47,10 @@ pub fn lay_mesh(width: u32, height: u32) -> Result<Mesh, Fault>
     })
 }
 
-// Joins so many nodes by the cables.
+// Joins so many nodes by the cables. A refused cable is named by its place in the list, which its line tells too.
 pub fn lay_cables(nodes: u32, cables: &[Cable]) -> Result<Cabled, Fault>
-    ensures { Laid (Form.Cabled nodes) cables.now (reported plan_of result) }
+    ensures laid { Laid (Form.Cabled nodes) cables.now (reported plan_of result) }
+    ensures named { MatchResult result (λ _. Unit {0}) (λ f. (i : ℕ) → f.refusal ≡ Refusal.Cable i → f.line ≡ 5 + i) }
 {
     let mut layout = Cabled::new();
     // A match: a closure for `map_err` would need a clause of its own, for what `line_of` asks.
@@ -78,7 +78,7 @@ pub fn settings(run: Run) -> Settings
 
 // The fault of settings that a network refuses.
 pub fn at_run_line(refusal: Refusal) -> Fault
-    ensures { told result ≡ (number refusal, Network, 3) }
+    ensures { result ≡ record { refusal = refusal; layer = Network; line = 3 } }
 {
     Fault {
         refusal,

@@ -1,5 +1,5 @@
 -- From the verdicts on a sheet's lines to what it is answered.
-use Rattle.std.proofs.Common.{◌≡◌, ℕ, ◌+◌, ◌≤◌, List, refl, ap, subst, inl}
+use Rattle.std.proofs.Common.{◌≡◌, ℕ, ◌+◌, ◌≤◌, List, sym, refl, ap, ap₂, ◌∙◌, subst, inl, inr}
 use Rattle.fabric.specs.Layouts.{Plan, Lawful}
 use Rattle.fabric.specs.Verdicts.{Verdict, granting}
 use Rattle.fabric.specs.Verdicts.Verdict.{granted, refused}
@@ -11,9 +11,12 @@ use Rattle.text.specs.declared.fault.Layer.{Layer}
 use Rattle.text.specs.declared.parts.Run.{Run}
 use Rattle.runsheet.specs.Said.{Said}
 use Rattle.runsheet.specs.Sheets.{SheetText}
-use Rattle.laying.specs.Layings.{Laid, settings_of, settled}
+use Rattle.runsheet.proofs.Single.{one_sheet}
+use Rattle.laying.specs.Layings.{Laid, Judged, settings_of, settled}
+use Rattle.laying.specs.Reports.{Report, then}
+use Rattle.laying.proofs.Single.{one_judgement}
 use Rattle.laying.specs.Reports.Report.{answers, faults}
-use Rattle.limit.specs.Answers.{OffWithin, Answered}
+use Rattle.limit.specs.Answers.{OffWithin, Answered, OneAnswer}
 
 abbrev value : {A : Type 0} → A → Verdict A → A
 value a (granted b) = b
@@ -44,3 +47,13 @@ module _ (bs : List ℕ) (s : Said) (read : SheetText bs s) where
 
     pub all : (l : Limits) → answers p ≡ settled s.run p → l ≡ limits_of p (settings_of s.run) → OffWithin p (settings_of s.run) l.latest → Answered bs (answers (p, l))
     all l e limits off = inl (s, read, (answers p, (answers p, laid, e), ap (λ m. answers (p, m)) limits), off)
+
+-- sheet, fault and report are one each, and so is the answer
+pub one_answer : OneAnswer
+one_answer bs r r' (inl (s, read, (v, j, e), w)) (inl (t, read', (u, k, f), x)) =
+    let same = (one_sheet bs).sheet s t read read' in
+    let one = one_judgement t.shape t.cables t.run v u (subst (λ (y : Said). Judged y.shape y.cables y.run v) same j) k in
+    e ∙ ap₂ (λ (y : Said) (z : Report Plan). then z (λ p. answers (p, limits_of p (settings_of y.run)))) same one ∙ sym f
+one_answer bs r r' (inl (s, read, a, w)) (inr (f, h', e)) = absurd ((one_sheet bs).none s f read h')
+one_answer bs r r' (inr (f, h, e)) (inl (s, read, a, w)) = absurd ((one_sheet bs).none s f read h)
+one_answer bs r r' (inr (f, h, e)) (inr (g, h', e')) = e ∙ ap faults ((one_sheet bs).fault f g h h') ∙ sym e'

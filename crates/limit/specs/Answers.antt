@@ -45,6 +45,10 @@ Answered bs r =
     ((s : Said) × SheetText bs s × Answers s r × Vouched s.run r)
     ⊎ ((f : Fault) × Refused bs f × (r ≡ faults (told f)))
 
+-- any bytes are answered one way
+abbrev pub OneAnswer : Type 0
+OneAnswer = (bs : List ℕ) (r r' : Report (Plan × Limits)) → Answered bs r → Answered bs r' → r ≡ r'
+
 -- what an answer of the code means
 abbrev pub meant : Answer → Plan × Limits
 meant (OnMesh m l) = (mesh_plan m.width m.height, l)

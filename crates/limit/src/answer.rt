@@ -3,7 +3,7 @@ ghost use Rattle.std.specs.Prelude.{◌≡◌, IfOk};
 ghost use Rattle.laying.specs.Layings.{settings_of, settled};
 ghost use Rattle.laying.specs.Reports.{reported};
 ghost use Rattle.bounds.specs.Lateness.{limits_of};
-ghost use Rattle.limit.specs.Answers.{OffWithin, Answered, meant};
+ghost use Rattle.limit.specs.Answers.{OffWithin, Answered, OneAnswer, meant};
 
 use bounds::limits::Limits;
 use cabled::cabled::Cabled;
@@ -30,7 +30,8 @@ fn bound<L: Layout>(layout: &L, run: Run) -> Result<Limits, Fault>
 }
 
 pub fn reply(bytes: &[u8]) -> Result<Answer, Fault>
-    ensures { Answered bytes.now (reported meant result) }
+    ensures answered { Answered bytes.now (reported meant result) }
+    ensures only { OneAnswer }
 {
     let sheet = read(bytes)?;
     match sheet.shape {

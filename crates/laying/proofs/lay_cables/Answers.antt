@@ -1,10 +1,11 @@
-use Rattle.std.proofs.Common.{ℕ, refl, ap}
-use Rattle.fabric.specs.Refusals.{number}
+use Rattle.std.proofs.Common.{ℕ, refl, ap, ◌∙◌}
+use Rattle.fabric.specs.Refusals.{number, numbered}
 use Rattle.cabled.specs.declared.cabled.Cabled.{Cabled}
 use Rattle.cabled.specs.Laws.{lawful}
 use Rattle.cabled.specs.Plans.{plan_of}
 use Rattle.fabric.specs.Layouts.{Lawful}
 use Rattle.text.specs.declared.fault.Layer.TheVariants.{Layout}
+use Rattle.laying.specs.Layings.{layout_line}
 use Rattle.laying.specs.Reports.Report.{faults}
 use Rattle.laying.proofs.Laying.{as_plans, named_below}
 use Rattle.laying.proofs.lay_cables.Goals as goal
@@ -16,14 +17,17 @@ law x = lawful x.wiring.nodes x.wiring.ends x.spans.distances x.spans.reach x.wi
 pub line_of-requires : goal.line_of-requires
 line_of-requires c = named_below c.in-Err.ensures
 
-pub returns-in-Ok : goal.returns-in-Ok
-returns-in-Ok c = (_, law c.cable.new.self, _, as_plans _ c.new-layout.ensures.plan c.in-Ok.ensures, refl)
+pub returns-in-Ok-clause-laid : goal.returns-in-Ok-clause-laid
+returns-in-Ok-clause-laid c = (_, law c.cable.new.self, _, as_plans _ c.new-layout.ensures.plan c.in-Ok.ensures, refl)
 
-pub returns-in-Err : goal.returns-in-Err
-returns-in-Err c = (
+pub returns-in-Err-clause-laid : goal.returns-in-Err-clause-laid
+returns-in-Err-clause-laid c = (
   _,
   law c.cable.new.self,
   _,
   as_plans _ c.new-layout.ensures.plan c.in-Err.ensures,
   ap (λ (k : ℕ). faults (number c.in-Err.refusal, Layout, k)) c.line_of.ensures,
 )
+
+pub returns-in-Err-clause-named : goal.returns-in-Err-clause-named
+returns-in-Err-clause-named c = λ i e. c.line_of.ensures ∙ ap (λ r. layout_line (numbered r).0 (numbered r).1) e
