@@ -12,6 +12,7 @@ use Rattle.runsheet.specs.Said.{Said}
 use Rattle.text.specs.Texts.{Fits}
 use Rattle.text.specs.Lines.{Sized, packet_line, cable_line}
 use Rattle.runsheet.specs.Sheets.{Formed}
+use Rattle.text.proofs.Lists.{all_right}
 use Rattle.writer.specs.declared.writer.Writer.{Writer}
 use Rattle.writer.specs.Listings.{beyond}
 use Rattle.runner.specs.Tallies.{Tallied}
@@ -52,10 +53,6 @@ at_first b h nodes tickets aims tallied =
       tickets = tickets;
     }
 
-all_after : {X : Type 0} (Q : X → Type 0) (xs ys : List X) → AllByRecursion Q (xs ++ ys) → AllByRecursion Q ys
-all_after Q [] ys h = h
-all_after Q (x ∷ xs) ys h = all_after Q xs ys h.1
-
 sendable : (ps : List Packet) → AllByRecursion Sized ps → AllByRecursion (AllByRecursion Fits) (map packet_line ps) → AllByRecursion Sendable ps
 sendable [] s n = tt
 sendable (p ∷ ps) s n = (record { sized = s.0; numbers = n.0 }, sendable ps s.1 n.1)
@@ -65,7 +62,7 @@ pub all_left : (s : Said) → Formed 128 256 s → Left 0 s.packets
 all_left s f =
     record {
       rising = f.rising;
-      sendable = sendable s.packets f.sized (all_after (AllByRecursion Fits) (map cable_line s.cables) _ f.numbers.1.1.1.1).1;
+      sendable = sendable s.packets f.sized (all_right (AllByRecursion Fits) (map cable_line s.cables) _ f.numbers.1.1.1.1).1;
     }
 
 -- a run that was played, for the sheet that it is of

@@ -1,10 +1,11 @@
 -- The lines of a sheet can be told from their bytes.
-use Rattle.std.proofs.Common.{List, [], ◌∷◌, ◌++◌, map, length}
+use Rattle.std.proofs.Common.{◌∷◌, map, length}
 use Rattle.std.specs.List.{AllByRecursion}
-use Rattle.std.proofs.ByRecursion.{All-append}
+use Rattle.std.proofs.Permutation.{every_append}
 use Rattle.text.specs.Texts.{Fits}
 use Rattle.text.specs.Lines.{cable_line, packets_line, packet_line}
 use Rattle.text.proofs.Tidy.{Tidy, tidy_shape, tidy_kind, tidy_run, tidy_cables, tidy_cable, tidy_packets, tidy_packet, tidy_all}
+use Rattle.text.proofs.Lists.{all_left, all_right}
 use Rattle.runsheet.specs.Sheets.{lines}
 use Rattle.runsheet.specs.Said.{Said}
 use Rattle.runsheet.specs.Reading.{entry_line}
@@ -20,15 +21,6 @@ tidy_entry (entry.Cable x) f = tidy_cable x f
 tidy_entry (entry.Packets n) f = tidy_packets n f
 tidy_entry (entry.Packet x) f = tidy_packet x f
 
--- of two lists one after another
-pub all_left : {X : Type 0} (P : X → Type 0) (xs ys : List X) → AllByRecursion P (xs ++ ys) → AllByRecursion P xs
-all_left P [] ys h = tt
-all_left P (x ∷ xs) ys h = (h.0, all_left P xs ys h.1)
-
-pub all_right : {X : Type 0} (P : X → Type 0) (xs ys : List X) → AllByRecursion P (xs ++ ys) → AllByRecursion P ys
-all_right P [] ys h = h
-all_right P (x ∷ xs) ys h = all_right P xs ys h.1
-
 -- the numbers of a sheet's lists
 pub fits_cables : (s : Said) → AllByRecursion (AllByRecursion Fits) (lines s) → AllByRecursion (AllByRecursion Fits) (map cable_line s.cables)
 fits_cables s h = all_left (AllByRecursion Fits) (map cable_line s.cables) (packets_line (length s.packets) ∷ map packet_line s.packets) h.1.1.1.1
@@ -40,6 +32,6 @@ pub tidy_lines : (s : Said) → AllByRecursion (AllByRecursion Fits) (lines s) �
 tidy_lines s h =
     let q = fits_packets s h in
     let rest =
-    All-append Tidy (map cable_line s.cables) (packets_line (length s.packets) ∷ map packet_line s.packets) (tidy_all cable_line tidy_cable s.cables (fits_cables s h))
+    every_append Tidy (map cable_line s.cables) (packets_line (length s.packets) ∷ map packet_line s.packets) (tidy_all cable_line tidy_cable s.cables (fits_cables s h))
     (tidy_packets (length s.packets) q.0, tidy_all packet_line tidy_packet s.packets q.1) in
     (tidy_shape s.shape h.0, (tidy_kind s.kind h.1.0, (tidy_run s.run h.1.1.0, (tidy_cables (length s.cables) h.1.1.1.0, rest))))

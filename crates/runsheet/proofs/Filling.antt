@@ -2,11 +2,12 @@
 use Rattle.std.proofs.Common.{◌≡◌, ℕ, zero, suc, ◌-◌, ◌^◌, ◌<◌, ◌≤◌, List, [], ◌∷◌, ◌++◌, map, length, drop, replicate, slice_index, sym, refl, ap, ◌∙◌, subst, append_assoc, arith}
 use Rattle.std.specs.List.{AllByRecursion}
 use Rattle.std.proofs.lemmas.List.{length-append, length-replicate, map-append}
-use Rattle.std.proofs.ByRecursion.{All-append, All-map}
+use Rattle.std.proofs.Permutation.{every_append}
 use Rattle.fabric.specs.declared.parts.Port.TheVariants.{N}
 use Rattle.fabric.specs.declared.parts.Cable.{Cable as Wire}
 use Rattle.text.specs.Texts.{Field, Fits}
 use Rattle.runsheet.specs.Said.{Said}
+use Rattle.text.proofs.Lists.{all_map}
 use Rattle.text.specs.Lines.{Sized, kind_line, packets_line, packet_line, Uncabled, shape_line, run_line, cables_line, cable_line}
 use Rattle.runsheet.specs.Sheets.{lines, Formed, Rising}
 use Rattle.runsheet.specs.Reading.{Draft, cabled_lines, all_lines, so_far, Stage, latest, Valid}
@@ -63,14 +64,14 @@ module _ (d : Draft) (n m : ℕ) (hn : length d.cables ≤ n) (hm : length d.pac
 
   fits_cables : Valid d → AllByRecursion (AllByRecursion Fits) (map cable_line (fill d n m).cables)
   fits_cables v =
-      All-map (AllByRecursion Fits) cable_line (fill d n m).cables
-      (All-append (λ x. AllByRecursion Fits (cable_line x)) d.cables (spare_wires d n) v.cables (all_replicate (λ x. AllByRecursion Fits (cable_line x)) (n - length d.cables) spare_wire (omega arith, (tt, (omega arith, (tt, tt))))))
+      all_map (AllByRecursion Fits) cable_line (fill d n m).cables
+      (every_append (λ x. AllByRecursion Fits (cable_line x)) d.cables (spare_wires d n) v.cables (all_replicate (λ x. AllByRecursion Fits (cable_line x)) (n - length d.cables) spare_wire (omega arith, (tt, (omega arith, (tt, tt))))))
 
   fits_packets : Valid d → AllByRecursion (AllByRecursion Fits) (map packet_line (fill d n m).packets)
   fits_packets v =
       let l : d.last < 2 ^ 32 = subst (λ c. c < 2 ^ 32) (sym v.last) (latest_fits 0 d.packets (omega arith) v.packets) in
-      All-map (AllByRecursion Fits) packet_line (fill d n m).packets
-      (All-append (λ x. AllByRecursion Fits (packet_line x)) d.packets (spare_plans d m) v.packets
+      all_map (AllByRecursion Fits) packet_line (fill d n m).packets
+      (every_append (λ x. AllByRecursion Fits (packet_line x)) d.packets (spare_plans d m) v.packets
       (all_replicate (λ x. AllByRecursion Fits (packet_line x)) (m - length d.packets) (spare_plan d.last) (l, (omega arith, (omega arith, (omega arith, (omega arith, (omega arith, tt))))))))
 
   pub formed_fill : Valid d → n < 2 ^ 32 → m < 2 ^ 32 → Uncabled d.shape n → Formed n m (fill d n m)
@@ -85,7 +86,7 @@ module _ (d : Draft) (n m : ℕ) (hn : length d.cables ≤ n) (hm : length d.pac
               v.run,
               (
                 (tt, (omega (arith, length_cables), tt)),
-                All-append (AllByRecursion Fits) (map cable_line S.cables) (packets_line (length S.packets) ∷ map packet_line S.packets) (fits_cables v) ((tt, (omega (arith, length_packets), tt)), fits_packets v),
+                every_append (AllByRecursion Fits) (map cable_line S.cables) (packets_line (length S.packets) ∷ map packet_line S.packets) (fits_cables v) ((tt, (omega (arith, length_packets), tt)), fits_packets v),
               ),
             ),
           ),
@@ -94,7 +95,7 @@ module _ (d : Draft) (n m : ℕ) (hn : length d.cables ≤ n) (hm : length d.pac
         uncabled = subst (Uncabled d.shape) (sym length_cables) u;
         cables = omega (arith, length_cables);
         packets = omega (arith, length_packets);
-        sized = All-append Sized d.packets (spare_plans d m) v.sized (all_replicate Sized (m - length d.packets) (spare_plan d.last) (record { some = omega arith; most = omega arith; places = refl; blank = λ j l. no_words j }));
+        sized = every_append Sized d.packets (spare_plans d m) v.sized (all_replicate Sized (m - length d.packets) (spare_plan d.last) (record { some = omega arith; most = omega arith; places = refl; blank = λ j l. no_words j }));
         rising = subst (λ c. Rising 0 (d.packets ++ replicate (m - length d.packets) (spare_plan c))) (sym v.last) (rising_filled 0 (m - length d.packets) d.packets v.rising);
       }
 

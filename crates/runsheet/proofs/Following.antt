@@ -1,11 +1,12 @@
 -- What line follows in a sheet that goes along with the lines that were read.
-use Rattle.std.proofs.Common.{◌≡◌, ℕ, zero, suc, ◌+◌, ◌-◌, ◌<◌, ◌≤◌, ◌⊎◌, List, [], ◌∷◌, ◌++◌, map, length, get_or, sym, refl, ap, ◌∙◌, subst, inl, inr, arith}
+use Rattle.std.proofs.Common.{◌≡◌, ℕ, suc, ◌+◌, ◌-◌, ◌<◌, ◌≤◌, ◌⊎◌, List, [], ◌∷◌, ◌++◌, map, length, get_or, sym, refl, ap, ◌∙◌, subst, inl, inr, arith}
 use Rattle.std.specs.List.{AllByRecursion}
 use Rattle.std.proofs.lemmas.List.{length-append, length-map, get_or-drop, get_or_append_left, get_or-append_right, get_or-map, get_or_at}
-use Rattle.std.proofs.ByRecursion.{All-get_or}
+use Rattle.std.proofs.Permutation.{every_at}
 use Rattle.fabric.specs.declared.parts.Port.TheVariants.{N}
 use Rattle.fabric.specs.declared.parts.Cable.{Cable as Wire}
-use Rattle.text.specs.Texts.{Field, Fits, row}
+use Rattle.text.specs.Texts.{Field, Fits, row, Any}
+use Rattle.text.specs.declared.parts.Shape.{Shape}
 use Rattle.runsheet.specs.Said.{Said}
 use Rattle.text.specs.Lines.{Sized, kind_line, packets_line, packet_line, Uncabled, shape_line, run_line, cables_line, cable_line}
 use Rattle.runsheet.specs.Sheets.{lines, Formed, Rising}
@@ -16,7 +17,9 @@ use Rattle.runsheet.specs.declared.reader.Section.TheVariants as section
 use Rattle.runsheet.specs.declared.reader.Entry.{Entry}
 use Rattle.runsheet.specs.declared.reader.Entry.TheVariants as entry
 use Rattle.runsheet.proofs.Apart.{fits_cables, fits_packets}
-use Rattle.text.proofs.Tidy.{same_cables, same_uncabled, same_packets, same_cycle}
+use Rattle.text.proofs.Tidy.{tidy_shape, tidy_cables, tidy_packets, tidy_packet}
+use Rattle.text.proofs.Values.{tell_shape, tell_cables, tell_packets, tell_packet, same_row}
+use Rattle.text.proofs.Lists.{all_map_at}
 use Rattle.text.proofs.Aligned.{Agree}
 use Rattle.runsheet.proofs.Moves.{length_cabled, length_all}
 
@@ -58,11 +61,6 @@ module _ (a b c e : List Field) (cs : List Wire) (m : ℕ) (qs : List Plan) wher
       ∙ ap (λ j. get_or (packets_line m ∷ map packet_line qs) j []) f
       ∙ get_or-map packet_line qs i no_plan [] l
 
-all_map_at : {X Y : Type 0} (P : Y → Type 0) (f : X → Y) (xs : List X) (i : ℕ) (d : X) → i < length xs → AllByRecursion P (map f xs) → P (f (get_or xs i d))
-all_map_at P f [] i d l h = absurd (let z : ⊥ = omega arith in z)
-all_map_at P f (x ∷ xs) zero d l h = h.0
-all_map_at P f (x ∷ xs) (suc i) d l h = all_map_at P f xs i d (omega arith) h.1
-
 -- packets that agree in their cycles are due no later than the next one
 latest_le : (c : ℕ) (ps qs : List Plan) → Rising c qs → length ps < length qs → ((j : ℕ) → j < length ps → (get_or ps j no_plan).cycle ≡ (get_or qs j no_plan).cycle) → latest c ps ≤ (get_or qs (length ps) no_plan).cycle
 latest_le c [] [] r l h = absurd (let z : ⊥ = omega arith in z)
@@ -79,7 +77,7 @@ Follows d L k = Coming d L k ⊎ ((d.section ≡ section.End) × (length L ≡ k
 
 module _ (d : Draft) (c p : ℕ) (s : Said) (v : Valid d) (F : Formed c p s) where
   same_wires : row (cables_line d.wires) ≡ row (cables_line (length s.cables)) → d.wires ≡ length s.cables
-  same_wires e = same_cables d.wires (length s.cables) (tt, (omega (arith, v.wires), tt)) F.numbers.1.1.1.0 e
+  same_wires e = same_row cables_line Any tell_cables tidy_cables d.wires (length s.cables) (tt, (omega (arith, v.wires), tt)) F.numbers.1.1.1.0 tt tt e
 
   -- the lines after the cables, of what was read and of the sheet
   read_packets : get_or (all_lines d) (4 + length d.cables) [] ≡ packets_line d.plans
@@ -99,7 +97,7 @@ module _ (d : Draft) (c p : ℕ) (s : Said) (v : Valid d) (F : Formed c p s) whe
 
   same_plans : Agree (all_lines d) (lines s) (length (all_lines d)) → length d.cables ≡ length s.cables → d.plans ≡ length s.packets
   same_plans a e =
-      same_packets d.plans (length s.packets) (tt, (omega (arith, v.plans), tt)) (fits_packets s F.numbers).0
+      same_row packets_line Any tell_packets tidy_packets d.plans (length s.packets) (tt, (omega (arith, v.plans), tt)) (fits_packets s F.numbers).0 tt tt
       (ap row (sym read_packets) ∙ a (4 + length d.cables) (omega (arith, length_all d)) ∙ ap row (sheet_packets (length d.cables) e))
 
   -- the line that comes next
@@ -129,13 +127,15 @@ module _ (d : Draft) (c p : ℕ) (s : Said) (v : Valid d) (F : Formed c p s) whe
       let i = length d.packets in
       let l : i < length s.packets = omega (arith, st.1) in
       let like : (j : ℕ) → j < i → (get_or d.packets j no_plan).cycle ≡ (get_or s.packets j no_plan).cycle =
-      λ j k. same_cycle (get_or d.packets j no_plan) (get_or s.packets j no_plan) (All-get_or (λ x. AllByRecursion Fits (packet_line x)) d.packets j no_plan k v.packets) (fits_of j (omega arith))
-      (ap row (sym (read_packet j k)) ∙ a (5 + length d.cables + j) (omega (arith, length_all d)) ∙ ap row (sheet_packet (length d.cables) j w (omega arith))) in
+      λ j k. ap (λ (x : Plan). x.cycle) (same_row packet_line Sized tell_packet tidy_packet (get_or d.packets j no_plan) (get_or s.packets j no_plan)
+      (every_at (λ x. AllByRecursion Fits (packet_line x)) d.packets j no_plan k v.packets) (fits_of j (omega arith))
+      (every_at Sized d.packets j no_plan k v.sized) (every_at Sized s.packets j no_plan (omega arith) F.sized)
+      (ap row (sym (read_packet j k)) ∙ a (5 + length d.cables + j) (omega (arith, length_all d)) ∙ ap row (sheet_packet (length d.cables) j w (omega arith)))) in
       subst (Coming d (lines s)) (sym (length_all d)) (
         entry.Packet (get_or s.packets i no_plan),
         omega (arith, length_lines s),
         fits_of i l,
-        (at, All-get_or Sized s.packets i no_plan l F.sized, subst (λ k. k ≤ (get_or s.packets i no_plan).cycle) (sym v.last) (latest_le 0 d.packets s.packets F.rising l like)),
+        (at, every_at Sized s.packets i no_plan l F.sized, subst (λ k. k ≤ (get_or s.packets i no_plan).cycle) (sym v.last) (latest_le 0 d.packets s.packets F.rising l like)),
         sheet_packet (length d.cables) i w l,
       )
 
@@ -150,7 +150,7 @@ module _ (d : Draft) (c p : ℕ) (s : Said) (v : Valid d) (F : Formed c p s) whe
   follows section.Switch at st a = inl (entry.Kind s.kind, omega (arith, length_lines s), F.numbers.1.0, at, refl)
   follows section.Run at st a = inl (entry.Run s.run, omega (arith, length_lines s), F.numbers.1.1.0, (at, F.cycles), refl)
   follows section.Cables at st a =
-      let u : Uncabled d.shape (length s.cables) = same_uncabled d.shape s.shape (length s.cables) v.shape F.numbers.0 (a 0 (omega arith)) F.uncabled in
+      let u : Uncabled d.shape (length s.cables) = subst (λ (x : Shape). Uncabled x (length s.cables)) (sym (same_row shape_line Any tell_shape tidy_shape d.shape s.shape v.shape F.numbers.0 tt tt (a 0 (omega arith)))) F.uncabled in
       inl (entry.Cables (length s.cables), omega (arith, length_lines s), F.numbers.1.1.1.0, (at, u), refl)
   follows section.Cable at st a = inl (next_cable at st a)
   follows section.Packets at st a = let h = next_packets st a in inl (entry.Packets (length s.packets), h.0, (fits_packets s F.numbers).0, at, h.1)

@@ -2,7 +2,7 @@
 use Rattle.std.proofs.Common.{◌≡◌, ℕ, ◌+◌, ◌<◌, ◌≤◌, ltb, List, [], ◌∷◌, ◌++◌, map, length, sym, refl, ap, ◌∙◌, subst, append_assoc, arith}
 use Rattle.std.specs.List.{AllByRecursion}
 use Rattle.std.proofs.lemmas.List.{length-append, length-map, length_push, map_push}
-use Rattle.std.proofs.ByRecursion.{All-push}
+use Rattle.std.proofs.SliceLists.{all_by_recursion_push}
 use Rattle.std.proofs.lemmas.Bool.{cond_both, ltb-true, ltb-false}
 use Rattle.batch.specs.Items.{joined}
 use Rattle.batch.proofs.Rooms.{joined_room}
@@ -77,8 +77,8 @@ module _ (d : Draft) (x : Plan) (v : Valid d) (u : Suits d (entry.Packet x)) (f 
               wires = v.wires;
               cables = v.cables;
               plans = v.plans;
-              packets = All-push (λ y. AllByRecursion Fits (packet_line y)) d.packets x v.packets f;
-              sized = All-push Sized d.packets x v.sized u.1;
+              packets = all_by_recursion_push (λ y. AllByRecursion Fits (packet_line y)) d.packets x v.packets f;
+              sized = all_by_recursion_push Sized d.packets x v.sized u.1;
               rising = rising_push 0 d.packets x v.rising (subst (λ c. c ≤ x.cycle) v.last u.2);
               last = sym (latest_push 0 d.packets x);
               stage = st;

@@ -2,9 +2,9 @@
 use Rattle.std.proofs.Common.{◌≡◌, ℕ, ◌+◌, ◌^◌, ◌<◌, ◌≤◌, List, [], ◌∷◌, ◌++◌, map, length, get_or, sym, refl, ap, ◌∙◌, subst, inr, ⊎_elim, append_assoc, append-nil, arith}
 use Rattle.std.specs.List.{AllByRecursion}
 use Rattle.std.proofs.lemmas.List.{length-append, length_push}
-use Rattle.std.proofs.ByRecursion.{All-get_or}
+use Rattle.std.proofs.Permutation.{every_at}
 use Rattle.fabric.specs.declared.parts.Cable.{Cable as Wire}
-use Rattle.text.specs.Texts.{Field, Fits, Free, Lined, row, written, text, Barred}
+use Rattle.text.specs.Texts.{Field, Fits, Free, Lined, row, written, text, Barred, Any}
 use Rattle.runsheet.specs.Said.{Said}
 use Rattle.text.specs.Lines.{packets_line, packet_line, kind_line, cables_line, cable_line, shape_line, run_line}
 use Rattle.runsheet.specs.Sheets.{lines, Formed, SheetText, Refused}
@@ -15,8 +15,10 @@ use Rattle.text.specs.declared.parts.Packet.{Packet as Plan}
 use Rattle.runsheet.specs.declared.reader.Section.TheVariants as section
 use Rattle.runsheet.specs.declared.reader.Entry.{Entry}
 use Rattle.runsheet.specs.declared.reader.Entry.TheVariants as entry
-use Rattle.text.proofs.Tidy.{Tidy, tidy_cables, same_cables, tidy_packets, same_packets}
-use Rattle.runsheet.proofs.Apart.{tidy_entry, tidy_lines, fits_packets, all_left}
+use Rattle.text.proofs.Tidy.{Tidy, tidy_cables, tidy_packets}
+use Rattle.text.proofs.Values.{tell_cables, tell_packets, same_row}
+use Rattle.runsheet.proofs.Apart.{tidy_entry, tidy_lines, fits_packets}
+use Rattle.text.proofs.Lists.{all_left}
 use Rattle.text.proofs.Aligned.{Agree, Matched, cut}
 use Rattle.text.proofs.Stopping.{along, goes_on, halted, onward, is_line, no_line, other_line}
 use Rattle.runsheet.proofs.Sections.{unlike}
@@ -80,7 +82,7 @@ module _ (d : Draft) (bs rest : List ℕ) (v : Valid d) (o : bs ≡ text (lines_
             let h = none g.0 g.1 m.0 in
             ⊎_elim
             (λ i. omega (arith, i.0, h.0))
-            (λ i. h.1 (cut (row (get_or L (length A) [])) (row l) i.1.0 more (All-get_or Tidy L (length A) [] h.0 t).ends T.ends (sym (ended (get_or L (length A) []) i.1.0) ∙ sym i.1.1 ∙ w ∙ ended l more)).0)
+            (λ i. h.1 (cut (row (get_or L (length A) [])) (row l) i.1.0 more (every_at Tidy L (length A) [] h.0 t).ends T.ends (sym (ended (get_or L (length A) []) i.1.0) ∙ sym i.1.1 ∙ w ∙ ended l more)).0)
             m.1;
         fault = inr (at, subst (λ k. GoesOn lines Unlimited k bs) (length_push A l) (along lines (A ++ l ∷ []) bs more (onward A (A ++ l ∷ []) l bs rest more o refl w) Unlimited s Z big e));
       }
@@ -98,7 +100,7 @@ module _ (d : Draft) (bs rest : List ℕ) (v : Valid d) (o : bs ≡ text (lines_
       (lines_fill d n d.plans hn hm ∙ ap (λ s. (so_far s d ++ cables_line n ∷ []) ++ Z) (sym u.0))
       (λ t F a. (
         omega (arith, length_lines t),
-        λ e. let same = same_cables (length t.cables) n F.numbers.1.1.1.0 g (ap (λ k. row (get_or (lines t) k [])) (sym three) ∙ e) in omega (arith, F.cables),
+        λ e. let same = same_row cables_line Any tell_cables tidy_cables (length t.cables) n F.numbers.1.1.1.0 g tt tt (ap (λ k. row (get_or (lines t) k [])) (sym three) ∙ e) in omega (arith, F.cables),
       ))
 
   over_packets : (f : Fault) (n : ℕ) (more : List ℕ) → told f ≡ too_many (length (lines_read d) + 1) → AllByRecursion Fits (packets_line n) → Suits d (entry.Packets n) → 256 < n → rest ≡ written (packets_line n) ++ more → Stops lines Lawful Unlimited bs (length (lines_read d)) f
@@ -119,7 +121,7 @@ module _ (d : Draft) (bs rest : List ℕ) (v : Valid d) (o : bs ≡ text (lines_
       let h = next_packets d 128 256 t v F st (subst (λ B. Agree B (lines t) (length B)) all a) in (
         subst (λ B. length B < length (lines t)) (sym all) h.0,
         λ e.
-            let same = same_packets (length t.packets) n (fits_packets t F.numbers).0 g (ap row (sym h.1) ∙ ap (λ B. row (get_or (lines t) (length B) [])) (sym all) ∙ e) in
+            let same = same_row packets_line Any tell_packets tidy_packets (length t.packets) n (fits_packets t F.numbers).0 g tt tt (ap row (sym h.1) ∙ ap (λ B. row (get_or (lines t) (length B) [])) (sym all) ∙ e) in
             omega (arith, F.packets),
       ))
 

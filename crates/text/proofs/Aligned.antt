@@ -2,10 +2,10 @@
 use Rattle.std.proofs.Common.{◌≡◌, ℕ, zero, suc, ◌+◌, ◌<◌, ◌≤◌, ◌⊎◌, List, [], ◌∷◌, ◌++◌, length, get_or, take, drop, sym, refl, ap, ◌∙◌, inl, inr, ⊎_elim, append_assoc, arith}
 use Rattle.std.specs.List.{AllByRecursion}
 use Rattle.std.proofs.lemmas.List.{length-append, length-drop, length-take-le, take_all, get_or-take, drop-take, drop_more, append-nil}
-use Rattle.std.proofs.ByRecursion.{All-take}
 use Rattle.std.proofs.lemmas.Bool.{cases_lt}
 use Rattle.text.specs.Texts.{Field, row, written, text, Free}
 use Rattle.text.proofs.Tidy.{Tidy}
+use Rattle.text.proofs.Lists.{all_take}
 
 -- the bytes up to the first 10 and those after it
 pub cut : (a b s t : List ℕ) → Free 10 a → Free 10 b → a ++ 10 ∷ s ≡ b ++ 10 ∷ t → (a ≡ b) × (s ≡ t)
@@ -52,7 +52,7 @@ matched A L rest s f g e n =
     ⊎_elim
     (λ l.
     let t : length (take (length A + 1) L) ≡ length A + 1 = length-take-le (length A + 1) L (omega arith) in
-    let h = aligned A (take (length A + 1) L) rest s f (All-take Tidy (length A + 1) L g) (omega arith) e in (
+    let h = aligned A (take (length A + 1) L) rest s f (all_take Tidy (length A + 1) L g) (omega arith) e in (
       (λ j k. h.0 j k ∙ ap row (get_or-take (length A + 1) L j [] (omega arith))),
       inr (l, (s, h.1 ∙ ap (λ q. text q ++ s) (drop-take (length A) 1 L ∙ ap (take 1) (drop_more L (length A) [] l)) ∙ ap (λ q. q ++ s) (append-nil (written (get_or L (length A) []))))),
     ))

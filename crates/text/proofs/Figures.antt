@@ -2,7 +2,7 @@
 use Rattle.std.proofs.Common.{◌≡◌, ℕ, ◌+◌, ◌^◌, ◌<◌, ◌≤◌, List, [], ◌∷◌, ◌++◌, map, length, get_or, take, drop, decimal, sym, ap, ◌∙◌, subst, arith}
 use Rattle.std.specs.List.{AllByRecursion}
 use Rattle.std.proofs.lemmas.List.{append-nil, get_or_past, length-append, length-map, length-take-le, get_or_append_left, get_or-map, get_or-take, drop_at, drop_more, nil_from_length}
-use Rattle.std.proofs.ByRecursion.{All-get_or}
+use Rattle.std.proofs.Permutation.{every_at}
 use Rattle.std.proofs.lemmas.Fmt.{decimal_injective}
 use Rattle.text.specs.Texts.{Fits, number, shown}
 use Rattle.text.specs.Lines.{packet_line, Blank}
@@ -47,7 +47,7 @@ pub fits_at : (xs : List ℕ) (k i : ℕ) → i < k → k ≤ length xs → AllB
 fits_at xs k i l m a =
     let b = length-take-le k xs m in
     let c : i < length (map number (take k xs)) = subst (λ n. i < n) (sym (length-map (take k xs) number ∙ b)) l in
-    subst Fits (get_or-map number (take k xs) i 0 (number 0) (omega arith) ∙ ap number (get_or-take k xs i 0 l)) (All-get_or Fits (map number (take k xs)) i (number 0) c a)
+    subst Fits (get_or-map number (take k xs) i 0 (number 0) (omega arith) ∙ ap number (get_or-take k xs i 0 l)) (every_at Fits (map number (take k xs)) i (number 0) c a)
 
 pub figures_only : (ns : List ℕ) (ws : List (List ℕ)) → ws ≡ figures ns → ws ≡ figures ns ++ []
 figures_only ns ws e = e ∙ sym (append-nil (figures ns))

@@ -1,6 +1,7 @@
 pub mod Aligned
 pub mod Exits
 pub mod Figures
+pub mod Lists
 pub mod Numbers
 pub mod Parting
 pub mod Single

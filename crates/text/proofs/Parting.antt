@@ -9,7 +9,7 @@ use Rattle.std.proofs.lemmas.List.Splits.{slice_split_none, slice_split_at, leng
 use Rattle.std.proofs.lemmas.List.Quantifiers.{position-Some}
 use Rattle.std.proofs.lemmas.List.Sums.{fails_before_first}
 use Rattle.std.proofs.lemmas.Grind.{common_steps}
-use Rattle.std.proofs.ByRecursion.{All-from_get_or}
+use Rattle.std.proofs.Permutation.{every_of}
 use Rattle.std.proofs.lemmas.Bool.{eq-eqb, ne_eqb, eqb-true, false≢true}
 use Rattle.text.specs.Texts.{parted, spaced, Free}
 
@@ -29,7 +29,7 @@ pub first_at : (b : ℕ) (s : List ℕ) (e : ℕ) → position (λ x. eqb x b) s
 first_at b s e h =
     let k = position-Some (λ x. eqb x b) s e 0 h in (
       k.0,
-      All-from_get_or (λ x. x ≡ b → ⊥) (take e s) 0 (λ i l y.
+      every_of (λ x. x ≡ b → ⊥) (take e s) 0 (λ i l y.
           let m : i < e = omega (arith, length-take-le e s (omega (arith, k.0))) in
           false≢true (sym (k.2 i m) ∙ eq-eqb (get_or s i 0) b (sym (get_or-take e s i 0 m) ∙ y))),
       eqb-true (get_or s e 0) b k.1,
@@ -39,7 +39,7 @@ first_at b s e h =
 pub none_at : (b : ℕ) (s : List ℕ) → position (λ x. eqb x b) s ≡ None → Free b s
 none_at b s h =
     let k : length s ≤ position_or_len (λ x. eqb x b) s = grind (arith, common_steps) in
-    All-from_get_or (λ x. x ≡ b → ⊥) s 0 (λ i l y. false≢true (sym (fails_before_first (λ x. eqb x b) s i 0 (omega arith)) ∙ eq-eqb (get_or s i 0) b y))
+    every_of (λ x. x ≡ b → ⊥) s 0 (λ i l y. false≢true (sym (fails_before_first (λ x. eqb x b) s i 0 (omega arith)) ∙ eq-eqb (get_or s i 0) b y))
 
 -- up to the first b, at index e
 pub parted_found : (b : ℕ) (s : List ℕ) (e : ℕ) → e < length s → Free b (take e s) → get_or s e 0 ≡ b → parted b s ≡ take e s ∷ parted b (drop (e + 1) s)

@@ -1,5 +1,5 @@
 -- Where reading stops, no document goes on.
-use Rattle.std.proofs.Common.{◌≡◌, ℕ, ◌+◌, ◌-◌, ◌<◌, eqb, List, [], ◌∷◌, ◌++◌, map, length, take, drop, Some, sym, refl, ap, ◌∙◌, subst, inl, append_assoc, arith}
+use Rattle.std.proofs.Common.{◌≡◌, ◌≢◌, ℕ, ◌+◌, ◌-◌, ◌<◌, eqb, List, [], ◌∷◌, ◌++◌, map, length, take, drop, Some, sym, refl, ap, ◌∙◌, subst, inl, append_assoc, arith}
 use Rattle.std.specs.List.{position, AllByRecursion}
 use Rattle.std.proofs.lemmas.List.{take-append-drop, take_rest, drop_more, take_at, length-append, flat_map_more}
 use Rattle.text.specs.Texts.{Field, Fits, Free, Lined, Barred, shown, spaced, row, written, text, parted}
@@ -7,6 +7,7 @@ use Rattle.text.specs.Fields.{Unlike}
 use Rattle.text.specs.Faults.{told, ill_formed, GoesOn, Stops}
 use Rattle.text.specs.declared.fault.Fault.{Fault}
 use Rattle.text.proofs.Parting.{first_at, spaced_parted}
+use Rattle.text.proofs.Lists.{all_right}
 use Rattle.text.proofs.Tidy.{Tidy}
 use Rattle.text.proofs.Aligned.{cut, Matched, matched}
 
@@ -35,13 +36,9 @@ onward A B l bs rest more e g h = e ∙ ap (λ q. text A ++ q) h ∙ sym (append
 pub shorter : (l : List Field) (rest more : List ℕ) → rest ≡ written l ++ more → length more < length rest
 shorter l rest more e = omega (arith, ap length (e ∙ append_assoc (row l) (10 ∷ []) more), length-append (row l) (10 ∷ more))
 
-free_right : (b : ℕ) (xs ys : List ℕ) → Free b (xs ++ ys) → Free b ys
-free_right b [] ys h = h
-free_right b (x ∷ xs) ys h = free_right b xs ys h.1
-
 module _ {X : Type 0} (line : X → List Field) (P : X → Type 0) (rest : List ℕ) where
   pub no_line : Free 10 rest → Barred line P rest
-  no_line f x more h p e = (free_right 10 (row (line x)) (10 ∷ more) (subst (Free 10) (e ∙ append_assoc (row (line x)) (10 ∷ []) more) f)).0 refl
+  no_line f x more h p e = (all_right (λ x. x ≢ 10) (row (line x)) (10 ∷ more) (subst (Free 10) (e ∙ append_assoc (row (line x)) (10 ∷ []) more) f)).0 refl
 
   pub other_line : ((x : X) → AllByRecursion Fits (line x) → Tidy (line x)) → (ws : List (List ℕ)) (more : List ℕ) → Lined rest ws more → Unlike line P ws → Barred line P rest
   other_line t ws more n none x m h p e =

@@ -8,13 +8,14 @@ use Rattle.fabric.specs.Ports.{letter}
 use Rattle.fabric.specs.declared.parts.Port.{Port}
 use Rattle.fabric.specs.declared.parts.Port.TheVariants.{N, E, S, W}
 use Rattle.fabric.specs.declared.parts.Slot.{Slot}
-use Rattle.text.specs.Texts.{Field, number, shown, Fits, Any}
-use Rattle.text.specs.Lines.{shape_line, kind_word, kind_line, run_line, cables_line, cable_line, payload, packet_line, Sized}
+use Rattle.text.specs.Texts.{Field, number, shown, Fits, row, Any}
+use Rattle.text.specs.Lines.{shape_line, kind_word, kind_line, run_line, cables_line, cable_line, packets_line, payload, packet_line, Sized}
 use Rattle.text.specs.declared.parts.Shape.TheVariants.{Mesh, Cabled}
 use Rattle.text.specs.declared.parts.SwitchKind.{SwitchKind}
 use Rattle.text.specs.declared.parts.SwitchKind.TheVariants.{Chipper, Bless}
 use Rattle.text.proofs.Figures.{figures}
 use Rattle.text.proofs.Words.{mesh_apart}
+use Rattle.text.proofs.Tidy.{Tidy, same_words}
 
 -- two values of a kind with the same words are one
 abbrev pub Telling : {X : Type 0} → (X → List Field) → (X → Type 0) → Type 0
@@ -67,6 +68,9 @@ tell_run x y f g a b e = λ i. record {
 pub tell_cables : Telling cables_line Any
 tell_cables m n f g a b e = number_at 1 m n _ _ f.1.0 g.1.0 refl refl e
 
+pub tell_packets : Telling packets_line Any
+tell_packets m n f g a b e = number_at 1 m n _ _ f.1.0 g.1.0 refl refl e
+
 same_slot : (s t : Slot) → s.node ≡ t.node → letter s.port ≡ letter t.port → s ≡ t
 same_slot s t n p = λ j. record { node = n j; port = same_port s.port t.port p j }
 
@@ -105,6 +109,11 @@ tell_packet x y f g a b e = λ i. record {
         (λ k. sym (get_or-take x.count x.words j 0 k) ∙ ap (λ ws. get_or ws j 0) written ∙ get_or-take y.count y.words j 0 (omega (arith, count)))
         (λ k. a.blank j k ∙ sym (b.blank j (omega (arith, count))))
         (cases_lt j x.count)
+
+-- and from its bytes
+pub same_row : {X : Type 0} (line : X → List Field) (P : X → Type 0) → Telling line P → ((x : X) → AllByRecursion Fits (line x) → Tidy (line x)) → (x y : X) →
+    AllByRecursion Fits (line x) → AllByRecursion Fits (line y) → P x → P y → row (line x) ≡ row (line y) → x ≡ y
+same_row line P tell tidy x y f g a b e = tell x y f g a b (same_words (line x) (line y) (tidy x f) (tidy y g) e)
 
 -- and so can the values of a list
 pub tell_all : {X : Type 0} (line : X → List Field) (P : X → Type 0) → Telling line P → (xs ys : List X) →
