@@ -27,7 +27,7 @@ use Rattle.calls.specs.Steps.{far_place}
 use Rattle.calls.specs.Follow.{slot_of, Records, Queued, Shows}
 use Rattle.calls.specs.Midway.{Reached, Midway, NodeWorks, Round}
 use Rattle.calls.proofs.Promising.{Works}
-use Rattle.calls.proofs.Setting.{place_below}
+use Rattle.fabric.specs.Places.{place_below}
 use Rattle.calls.proofs.Putting.{put_length}
 use Rattle.calls.proofs.Working.{told_few}
 

@@ -1,9 +1,7 @@
 -- A network that has just been set up.
-use Rattle.std.proofs.Common.{◌≡◌, ℕ, ◌+◌, ◌*◌, ◌<◌, ◌≤◌, ◌||◌, eqb, ltb, [], get_or, None, Option, sym, refl, ap, ◌∙◌, subst, mul-le-mul_right, mul-le-mul_left, zero-mul, arith}
+use Rattle.std.proofs.Common.{◌≡◌, ℕ, ◌+◌, ◌*◌, ◌≤◌, ◌||◌, eqb, ltb, [], get_or, None, Option, sym, refl, ap, ◌∙◌, subst, mul-le-mul_right, mul-le-mul_left, zero-mul, arith}
 use Rattle.std.proofs.lemmas.List.{get_or-replicate}
 use Rattle.std.proofs.lemmas.Bool.{cond-false, or_from, or_parts, le-ltb, ltb-false}
-use Rattle.fabric.specs.declared.parts.Port.{Port}
-use Rattle.fabric.specs.declared.parts.Port.TheVariants.{N, E, S, W}
 use Rattle.fabric.specs.Ports.{place_of}
 use Rattle.fabric.specs.Layouts.{Plan, Lawful}
 use Rattle.fabric.specs.Verdicts.Verdict.{granted}
@@ -21,12 +19,7 @@ use Rattle.calls.specs.Fits.{Fits}
 use Rattle.calls.specs.Records.{Starts}
 use Rattle.calls.specs.Follow.{Entry, Follows, Begins, slot_of}
 use Rattle.calls.proofs.Promising.{whole}
-
-pub place_below : (p : Port) → place_of p < 4
-place_below N = omega arith
-place_below E = omega arith
-place_below S = omega arith
-place_below W = omega arith
+use Rattle.fabric.specs.Places.{place_below}
 
 pub ticket_below : (F : Fabric) → Lawful F.plan → (P : Settings) → P.tickets ≤ 8 → all_tickets F.plan P ≤ 512
 ticket_below F law P h =

@@ -6,7 +6,7 @@ use Rattle.fabric.specs.declared.parts.Port.{Port}
 use Rattle.fabric.specs.declared.parts.Port.TheVariants.{N, E, S, W}
 use Rattle.fabric.specs.declared.parts.Flit.{Flit}
 use Rattle.fabric.specs.Layouts.{Lawful}
-use Rattle.fabric.specs.Ports.{place_of}
+use Rattle.fabric.specs.Ports.{place_of, same}
 use Rattle.switch.specs.Switches.{at}
 use Rattle.line.specs.Queues.{Queue, put}
 use Rattle.batch.specs.Items.{items}
@@ -18,7 +18,7 @@ use Rattle.network.specs.Log.{Log, received}
 use Rattle.network.specs.Log.Happening.{off}
 use Rattle.network.specs.Cycle.{Fabric, State, golden_in, off_at, in_slot_order}
 use Rattle.network.specs.Runs.{put_all, told, count_off}
-use Rattle.network.specs.Computed.{due, best, same_port, without, taken, left}
+use Rattle.network.specs.Computed.{due, best, without, taken, left}
 use Rattle.network.proofs.Invariant.{Inv, Sits, Opened}
 use Rattle.network.proofs.Nodes.{taken_here}
 use Rattle.calls.specs.declared.ticket.Ticket.{Ticket}
@@ -28,14 +28,9 @@ use Rattle.calls.specs.Telling.{event_of}
 use Rattle.calls.specs.Follow.{slot_of, Recorded, Entry, Records, Queued}
 use Rattle.calls.specs.Midway.{Reached, Between, Took}
 use Rattle.calls.proofs.Showing.{like, change, entry_more, entry_none, get_or_some, invariant}
+use Rattle.network.proofs.Places.{at_ordered}
 
-pub at_ordered : (here : Port → Option Flit) (p : Port) → at (in_slot_order here) p ≡ here p
-at_ordered here N = refl
-at_ordered here E = refl
-at_ordered here S = refl
-at_ordered here W = refl
-
-pub set_ordered : (here : Port → Option Flit) (p : Port) (o : Option Flit) → set (in_slot_order here) (place_of p) o ≡ in_slot_order (λ q. cond (same_port p q) o (here q))
+pub set_ordered : (here : Port → Option Flit) (p : Port) (o : Option Flit) → set (in_slot_order here) (place_of p) o ≡ in_slot_order (λ q. cond (same p q) o (here q))
 set_ordered here N o = refl
 set_ordered here E o = refl
 set_ordered here S o = refl

@@ -29,7 +29,7 @@ use Rattle.calls.specs.Midway.{Reached, Between, Took, TakesOff, Own, Let, Enter
 use Rattle.calls.proofs.Putting.{put_length, put_more}
 use Rattle.calls.proofs.Stepping.{far_same}
 use Rattle.calls.proofs.Showing.{invariant}
-use Rattle.calls.proofs.Takes.{at_ordered}
+use Rattle.network.proofs.Places.{at_ordered}
 
 -- the events and the count of happenings
 told_append : (xs ys : Log) → told (xs ++ ys) ≡ told ys ++ told xs

@@ -1,9 +1,8 @@
 // The steps of one node's work in a cycle, on its four places.
 ghost use Rattle.std.specs.Prelude.{◌≡◌, ◌+◌, ◌*◌, ◌<◌, None, slice_set};
-ghost use Rattle.fabric.specs.Ports.{place_of};
+ghost use Rattle.fabric.specs.Ports.{place_of, port_of};
 ghost use Rattle.switch.specs.Switches.{at};
 ghost use Rattle.network.specs.Cycle.{in_slot_order};
-ghost use Rattle.network.specs.Runs.{port_of};
 ghost use Rattle.network.specs.Computed.{due as is_due, better as is_better, best as is_best, ahead as is_ahead, gap as is_gap};
 ghost use Rattle.calls.specs.Steps.{none_at, wished, far_place, Spread, Unsent};
 

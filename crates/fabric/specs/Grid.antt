@@ -58,6 +58,13 @@ some_or_none : (o : Option Port) → (o ≡ None) ⊎ ((w : Port) × (o ≡ Some
 some_or_none None = inl refl
 some_or_none (Some w) = inr (w, refl)
 
+pub both_in : (k m n : ℕ) → m < k → n < k → both k m n ≡ true
+both_in k m n p q = and_from _ _ (lt-ltb _ _ p) (lt-ltb _ _ q)
+
+pub both_out : (k m n : ℕ) → (k ≤ m) ⊎ (k ≤ n) → both k m n ≡ false
+both_out k m n (inl p) = and_left _ _ (le-ltb _ _ p)
+both_out k m n (inr p) = and_right _ _ (le-ltb _ _ p)
+
 module _ (w h : ℕ) (ok : Fair w h) where
   pub column_in : (n : ℕ) → n % w < w
   column_in n = mod_below n w ok.0
@@ -110,18 +117,11 @@ module _ (w h : ℕ) (ok : Fair w h) where
       ∙ home (n % w) (n / w) (column_in n) (row_in n l) p
       ∙ ap (λ k. let t : Slot = record { node = k; port = p } in t) (div-add-mod' n w)
 
-  both_in : (m n : ℕ) → m < w * h → n < w * h → both (w * h) m n ≡ true
-  both_in m n p q = and_from _ _ (lt-ltb _ _ p) (lt-ltb _ _ q)
-
-  both_out : (m n : ℕ) → (w * h ≤ m) ⊎ (w * h ≤ n) → both (w * h) m n ≡ false
-  both_out m n (inl p) = and_left _ _ (le-ltb _ _ p)
-  both_out m n (inr p) = and_right _ _ (le-ltb _ _ p)
-
   distance_in : (m n : ℕ) → m < w * h → n < w * h → (mesh_plan w h).distance m n ≡ gap (m % w) (n % w) + gap (m / w) (n / w)
-  distance_in m n p q = cond-true (both (w * h) m n) _ _ (both_in m n p q)
+  distance_in m n p q = cond-true (both (w * h) m n) _ _ (both_in (w * h) m n p q)
 
   wish_in : (m n : ℕ) → m < w * h → n < w * h → (mesh_plan w h).wish m n ≡ towards (m % w) (m / w) (n % w) (n / w)
-  wish_in m n p q = cond-true (both (w * h) m n) _ _ (both_in m n p q)
+  wish_in m n p q = cond-true (both (w * h) m n) _ _ (both_in (w * h) m n p q)
 
   distance_at : (x y n : ℕ) → x < w → y < h → n < w * h →
       (mesh_plan w h).distance (y * w + x) n ≡ gap x (n % w) + gap y (n / w)
@@ -183,7 +183,7 @@ module _ (w h : ℕ) (ok : Fair w h) where
     near = omega (arith, sides w h ok.0 ok.1);
     absent = λ m n p q e. wish_in m n p q ∙ towards_here _ _ _ _ (sym (distance_in m n p q) ∙ e);
     nearer = nearer;
-    missing_distance = λ m n l. cond-false (both (w * h) m n) _ _ (both_out m n l);
-    missing_wish = λ m n l. cond-false (both (w * h) m n) _ _ (both_out m n l);
+    missing_distance = λ m n l. cond-false (both (w * h) m n) _ _ (both_out (w * h) m n l);
+    missing_wish = λ m n l. cond-false (both (w * h) m n) _ _ (both_out (w * h) m n l);
     missing_far = λ n p l. cond-false (nat_lt n (w * h)) _ _ (le-ltb _ _ l);
   }

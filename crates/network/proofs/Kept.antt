@@ -1,6 +1,7 @@
 -- Every run of every network that set-up accepts keeps the promises.
 use Rattle.std.proofs.Common.{◌≡◌, ℕ, ◌+◌, ◌*◌, ◌<◌, ◌≤◌, ◌||◌, ltb, ◌⊎◌, List, ◌++◌, Some, sym, refl, ap, ◌∙◌, subst, inl, inr, mul-le-mul_right, arith}
 use Rattle.std.proofs.lemmas.Bool.{or_parts, ltb-false}
+use Rattle.std.proofs.lemmas.Option.{same_Some}
 use Rattle.fabric.specs.declared.parts.Flit.{Flit}
 use Rattle.fabric.specs.declared.parts.Port.{Port}
 use Rattle.fabric.specs.Layouts.{Lawful}
@@ -15,7 +16,6 @@ use Rattle.network.specs.Runs.{Call}
 use Rattle.network.specs.Promises.{Stands, OffOnce, NeverOff, InOneSlot, InNoSlot, Begins, Alike, NoneEntered, IntoEpoch, Together, Kept, Promised}
 use Rattle.network.specs.Computed.{after}
 use Rattle.network.proofs.Stand.{stands_below}
-use Rattle.network.proofs.Places.{some_same}
 use Rattle.network.proofs.Invariant.{Sits, Inv}
 use Rattle.network.proofs.Running.{peel, invariant}
 use Rattle.network.proofs.Delivery.{delivered}
@@ -79,7 +79,7 @@ module _ (F : Fabric) (law : Lawful F.plan) where
       golden' : g.ticket ≡ t
       golden' =
           let z = alike.0 n p f u golden in
-          let w : z.0 ≡ g = some_same ((after F Q earlier').slot n p) z.0 g z.1 v in
+          let w : z.0 ≡ g = same_Some z.0 g (sym z.1 ∙ v) in
           sym (ap (λ (x : Flit). x.ticket) w) ∙ z.2
 
       go : Tied f g (after F P (more ++ earlier)).slot (after F Q (more' ++ earlier')).slot → Together (after F P (more ++ earlier)) (after F Q (more' ++ earlier')) f g

@@ -3,6 +3,7 @@ use Rattle.std.proofs.Common.{◌≡◌, ℕ, ◌/◌, ◌<◌, ◌≤◌, true,
 use mathlib.Core.Path.{transport}
 use lib.Seq.{take-length}
 use Rattle.std.proofs.lemmas.Bool.{eq-eqb, ne_eqb, cases_eq, and_parts, not-true, both_ways}
+use Rattle.std.proofs.lemmas.Option.{same_Some}
 use Rattle.fabric.specs.declared.parts.Flit.{Flit}
 use Rattle.fabric.specs.declared.parts.Port.{Port}
 use Rattle.network.specs.Log.{Happening, Log, Packet, packet, size, word, aim, free, sent, received, has, value, filled, complete, gathered, waiting}
@@ -12,7 +13,7 @@ use Rattle.bounds.specs.SetUp.{all_tickets}
 use Rattle.network.specs.Cycle.{Fabric, State}
 use Rattle.network.specs.Promises.{Stands, OffOnce, NeverOff, InOneSlot, InNoSlot, OfPacket, OfferedLast}
 use Rattle.network.proofs.Stand.{stands_later, stands_cases, stands_older, none_stands, Other, never_more, once_more}
-use Rattle.network.proofs.Places.{some_none, some_same}
+use Rattle.network.proofs.Places.{some_none}
 use Rattle.network.proofs.Invariant.{Sits, Opened, Waits, Inv, Each, Distinct, each_map, each_snoc, distinct_snoc}
 
 -- no flit moves
@@ -161,7 +162,7 @@ offered_last t p (offered u q ∷ l) e o = go (cases_eq t u) (offered_last t p l
     go : (t ≡ u) ⊎ (t ≡ u → ⊥) → (packet t l ≡ Some p → free t l ≡ false → OfferedLast t p l) → OfferedLast t p (offered u q ∷ l)
     go (inl h) ih =
         let w : Some q ≡ Some p = rw (eq-eqb t u h) at e in
-        let v : q ≡ p = some_same (Some p) q p (sym w) refl in
+        let v : q ≡ p = same_Some q p w in
         record {
           there = record { newer = []; older = l; split = λ j. offered (sym h j) (v j) ∷ l };
           no_offer = λ x d. none_stands d;

@@ -3,7 +3,7 @@ use Rattle.std.specs.Prelude.{ℕ, ◌+◌, Bool, cond, not, ◌&&◌, ◌||◌,
 use Rattle.fabric.specs.declared.parts.Flit.{Flit}
 use Rattle.fabric.specs.declared.parts.Port.{Port}
 use Rattle.fabric.specs.declared.parts.Port.TheVariants.{N, E, S, W}
-use Rattle.fabric.specs.Ports.{place_of}
+use Rattle.fabric.specs.Ports.{same}
 use Rattle.fabric.specs.Verdicts.{Verdict, granting}
 use Rattle.fabric.specs.Verdicts.Verdict.{granted, refused}
 use Rattle.switch.specs.Switches.{Handing, at, turned}
@@ -34,17 +34,14 @@ better g (Some b) p (Some f) = cond (ahead g f b.1) (Some (p, f)) (Some b)
 abbrev pub best : ℕ → Places → Option (Port × Flit)
 best g here = better g (better g (better g (better g None N (here N)) E (here E)) S (here S)) W (here W)
 
-abbrev pub same_port : Port → Port → Bool
-same_port p q = place_of p == place_of q
-
 -- four places with one of them emptied, or filled
 abbrev pub without : Option (Port × Flit) → Places → Places
 without None here p = here p
-without (Some b) here p = cond (same_port b.0 p) None (here p)
+without (Some b) here p = cond (same b.0 p) None (here p)
 
 abbrev pub with_flit : Option (Port × Flit) → Places → Places
 with_flit None here p = here p
-with_flit (Some b) here p = cond (same_port b.0 p) (Some b.1) (here p)
+with_flit (Some b) here p = cond (same b.0 p) (Some b.1) (here p)
 
 -- the first empty place, in slot order
 abbrev pub or_else : Option Port → Option Port → Option Port

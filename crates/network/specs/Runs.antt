@@ -1,8 +1,7 @@
 -- The calls that a network receives, what each is answered, and where a run of calls leads.
 use Rattle.std.specs.Prelude.{◌≡◌, ℕ, ◌+◌, ◌*◌, Bool, not, ◌||◌, List, [], ◌∷◌, ◌++◌, length, drop, None, Option, ◌==◌, nat_le, nat_lt}
 use Rattle.fabric.specs.declared.parts.Flit.{Flit}
-use Rattle.fabric.specs.declared.parts.Port.{Port}
-use Rattle.fabric.specs.declared.parts.Port.TheVariants.{N, E, S, W}
+use Rattle.fabric.specs.Ports.{port_of}
 use Rattle.fabric.specs.Verdicts.{Verdict, judged}
 use Rattle.fabric.specs.Verdicts.Verdict.{granted, refused}
 use Rattle.line.specs.Queues.{Queue, free_places, put}
@@ -29,13 +28,6 @@ pub data Outcome : Type 0 where
   cycling : Verdict ℕ → Queue Event → Outcome
   collecting : Verdict ℕ → List ℕ → Outcome
   looking : Verdict (Option Flit) → Outcome
-
--- the port of a number, in slot order
-abbrev pub port_of : ℕ → Port
-port_of ℕ.zero = N
-port_of (ℕ.suc ℕ.zero) = E
-port_of (ℕ.suc (ℕ.suc ℕ.zero)) = S
-port_of (ℕ.suc (ℕ.suc (ℕ.suc k))) = W
 
 abbrev pub event_in : Flit → ℕ → Event
 event_in f n = record { cycle = f.entered; kind = In; ticket = f.ticket; number = f.number; node = n; entered = f.entered }
