@@ -18,14 +18,13 @@ use Rattle.network.specs.declared.event.Kind.TheVariants.{In}
 use Rattle.network.specs.Log.{Log, packet, size, word, aim, free, sent, waiting}
 use Rattle.network.specs.Log.Happening.{entered}
 use Rattle.network.specs.Cycle.{Fabric, State, entered_at, in_slot_order}
-use Rattle.network.specs.Runs.{put_all, told}
+use Rattle.network.specs.Runs.{put_all, told, event_of}
 use Rattle.network.specs.Computed.{gap, placed, next_of, with_flit, left, entering, ready}
 use Rattle.network.proofs.Invariant.{Inv, Opened, Each, Waits as Waiting}
 use Rattle.network.proofs.Places.{some_none, at_ordered}
 use Rattle.calls.specs.declared.ticket.Ticket.{Ticket}
 use Rattle.calls.specs.declared.tables.Tables.{Tables}
 use Rattle.calls.specs.Records.{lines, line_at, Keeps, LetsGo, LetsIn}
-use Rattle.calls.specs.Telling.{event_of}
 use Rattle.calls.specs.Follow.{Recorded, Entry, Records, Queued}
 use Rattle.calls.specs.Midway.{Reached, Between, Own, Let}
 use Rattle.calls.proofs.Showing.{like, change, entry_more, entered_in, get_or_some, invariant}

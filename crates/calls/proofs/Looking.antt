@@ -10,12 +10,12 @@ use Rattle.network.specs.Runs.Call.{look}
 use Rattle.network.specs.Runs.Outcome.{looking}
 use Rattle.calls.specs.declared.tables.Tables.{Tables}
 use Rattle.calls.specs.Follow.{Shows}
-use Rattle.calls.proofs.Promising.{Works}
+use Rattle.calls.proofs.Promising.{Works, nothing_done}
 use Rattle.fabric.specs.Places.{place_of_port}
 
 module _ (F : Fabric) (i : Tables) (n k : ℕ) where
   looked : (v : Verdict _) → ((s : State) → Shows F i s → v ≡ look_verdict F i.settings s n k) → Works F i i (look n k) (looking v)
-  looked v h = record { does = λ s led sh. record { exact = ap looking (h s sh); same = refl; shows = sh } }
+  looked v h = nothing_done (λ s sh. (ap looking (h s sh), refl))
 
   pub no_look : (F.plan.nodes ≤ n) ⊎ (4 ≤ k) → Works F i i (look n k) (looking (refused 4 []))
   no_look (inl h) = looked _ (λ s sh. sym (cond-true _ _ _ (or_left _ _ (le-leb F.plan.nodes n h))))

@@ -221,7 +221,7 @@ module _ (F : Fabric) (P : Settings) (s : State) where
       let filled : Filled (entering F P s n) (left F P s n) w.ready = subst (λ (o : Option (Port × Flit)). Filled o (left F P s n) w.ready) d (subst (λ (x : Places). Filled w.entry x w.ready) b k.fills) in
       let e : w.ready ≡ ready F P s n = filled_one (entering F P s n) (left F P s n) w.ready (ready F P s n) filled c.fills in
       let p = k.places ∙ (ap (λ (x : Places). in_slot_order x) e ∙ sym c.places) in
-      let q = k.wishes ∙ (ap (λ (x : Places). in_slot_order (λ p. wish_of F n (x p))) e ∙ sym c.wishes) in
+      let q = k.wishes ∙ (ap (λ (x : Places). in_slot_order (λ p. wish_of F.plan n (x p))) e ∙ sym c.wishes) in
       let g = k.golden ∙ sym c.golden in
       let r = k.draws ∙ sym c.draws in
       λ i. record {

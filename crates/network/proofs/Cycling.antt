@@ -1,8 +1,8 @@
 -- The invariant over one cycle: node after node, and then each flit to its port's far end.
-use Rattle.std.proofs.Common.{◌≡◌, ℕ, zero, suc, ◌+◌, ◌*◌, ◌/◌, ◌<◌, ◌≤◌, cond, eqb, ltb, ◌⊎◌, List, ◌∷◌, ◌++◌, Some, None, Option, sym, refl, ap, ◌∙◌, subst, inl, inr, append_assoc, add-one, arith}
-use Rattle.std.proofs.lemmas.Nat.{div_below}
+use Rattle.std.proofs.Common.{◌≡◌, ℕ, zero, suc, ◌+◌, ◌/◌, ◌<◌, ◌≤◌, cond, eqb, ltb, ◌⊎◌, List, ◌∷◌, ◌++◌, Some, None, Option, sym, refl, ap, ◌∙◌, subst, inl, inr, append_assoc, add-one, arith}
 use Rattle.std.proofs.lemmas.Bool.{eq-eqb, ne_eqb, lt-ltb, le-ltb, cases_eq, cases_lt}
 use Rattle.std.proofs.lemmas.Option.{some_pair_parts}
+use Rattle.std.proofs.lemmas.Nat.{row_below_turned}
 use Rattle.fabric.specs.declared.parts.Flit.{Flit}
 use Rattle.fabric.specs.declared.parts.Port.{Port}
 use Rattle.fabric.specs.Layouts.{Lawful}
@@ -20,14 +20,7 @@ use Rattle.network.proofs.Entering.{inv_enter}
 
 -- a ticket is one of an existing node
 pub ticket_node : (F : Fabric) (P : Settings) (t : ℕ) → t < all_tickets F.plan P → t / P.tickets < F.plan.nodes
-ticket_node F P t h = go (cases_lt 0 P.tickets)
-  where
-    go : (0 < P.tickets) ⊎ (P.tickets ≤ 0) → t / P.tickets < F.plan.nodes
-    go (inl k) = div_below t P.tickets F.plan.nodes k h
-    go (inr k) =
-        let e : P.tickets ≡ 0 = omega arith in
-        let y : t < F.plan.nodes * 0 = subst (λ (x : ℕ). t < F.plan.nodes * x) e h in
-        absurd (omega arith)
+ticket_node F P t h = (row_below_turned t P.tickets F.plan.nodes P.tickets h (omega arith)).1
 
 module _ (F : Fabric) (P : Settings) (s : State) where
   pub put_packet : (t n : ℕ) (o : Option (Port × Flit)) (l : Log) → packet t (entered_at n o ++ l) ≡ packet t l

@@ -43,7 +43,7 @@ module _ (F : Fabric) (P : Settings) (s : State) (i : Inv F P s 0) where
   ready_golden n p f e t = (at_places F P s n p ∙ e, t ∙ sym (golden_is F P s n))
 
   pub wish_is : (n : ℕ) (p : Port) (f : Flit) → ready F P s n p ≡ Some f → at (handing F P s n).wishes p ≡ F.plan.wish n f.destination
-  wish_is n p f e = at_wishes F P s n p ∙ ap (λ (o : Option Flit). wish_of F n o) e
+  wish_is n p f e = at_wishes F P s n p ∙ ap (λ (o : Option Flit). wish_of F.plan n o) e
 
   apart : (n : ℕ) → Apart (handing F P s n)
   apart n p q f g u v k =

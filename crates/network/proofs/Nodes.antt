@@ -82,9 +82,9 @@ module _ (F : Fabric) (P : Settings) (s : State) where
   unfolding handing
   at_places n = at_ordered (ready F P s n)
 
-  pub at_wishes : (n : ℕ) (p : Port) → at (handing F P s n).wishes p ≡ wish_of F n (ready F P s n p)
+  pub at_wishes : (n : ℕ) (p : Port) → at (handing F P s n).wishes p ≡ wish_of F.plan n (ready F P s n p)
   unfolding handing
-  at_wishes n = at_ordered (λ p. wish_of F n (ready F P s n p))
+  at_wishes n = at_ordered (λ p. wish_of F.plan n (ready F P s n p))
 
   pub golden_is : (n : ℕ) → (handing F P s n).golden ≡ golden_in F P s.cycles
   unfolding handing

@@ -88,7 +88,7 @@ module _ (F : Fabric) (P : Settings) (s : State) where
   handing n =
       record {
         places = in_slot_order (ready n);
-        wishes = in_slot_order (λ p. wish_of F n (ready n p));
+        wishes = in_slot_order (λ p. wish_of F.plan n (ready n p));
         golden = golden_in F P s.cycles;
         draws = draws_at F P s n;
       }

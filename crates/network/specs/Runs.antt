@@ -7,6 +7,7 @@ use Rattle.fabric.specs.Verdicts.Verdict.{granted, refused}
 use Rattle.line.specs.Queues.{Queue, free_places, put}
 use Rattle.bounds.specs.declared.settings.Settings.{Settings}
 use Rattle.network.specs.declared.event.Event.{Event}
+use Rattle.network.specs.declared.event.Kind.{Kind}
 use Rattle.network.specs.declared.event.Kind.TheVariants.{In, Out}
 use Rattle.network.specs.Log.{Happening, Log, packet, size, aim, free, complete, gathered}
 use Rattle.network.specs.Log.Happening.{offered, entered, off, collected}
@@ -29,11 +30,15 @@ pub data Outcome : Type 0 where
   collecting : Verdict ℕ → List ℕ → Outcome
   looking : Verdict (Option Flit) → Outcome
 
+-- what is told of a flit, in a cycle, at a node
+abbrev pub event_of : ℕ → Kind → Flit → ℕ → Event
+event_of c k f n = record { cycle = c; kind = k; ticket = f.ticket; number = f.number; node = n; entered = f.entered }
+
 abbrev pub event_in : Flit → ℕ → Event
-event_in f n = record { cycle = f.entered; kind = In; ticket = f.ticket; number = f.number; node = n; entered = f.entered }
+event_in f n = event_of f.entered In f n
 
 abbrev pub event_out : Flit → ℕ → ℕ → Event
-event_out f n c = record { cycle = c; kind = Out; ticket = f.ticket; number = f.number; node = n; entered = f.entered }
+event_out f n c = event_of c Out f n
 
 -- what entered and what was taken off, as events, the oldest first
 abbrev pub told : Log → List Event
