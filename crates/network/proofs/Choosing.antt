@@ -4,6 +4,7 @@ use mathlib.Core.Path.{fun_ext}
 use Rattle.std.proofs.lemmas.Bool.{cases_lt, eq-eqb, ne_eqb}
 use Rattle.std.proofs.lemmas.Bool.Decides.{nat_tests}
 use Rattle.std.proofs.lemmas.Option.{same_Some}
+use Rattle.std.specs.Option.{option_or}
 use Rattle.fabric.specs.declared.parts.Flit.{Flit}
 use Rattle.fabric.specs.declared.parts.Port.{Port}
 use Rattle.fabric.specs.declared.parts.Port.TheVariants.{N, E, S, W}
@@ -11,7 +12,7 @@ use Rattle.fabric.specs.Ports.{place_of, same}
 use Rattle.bounds.specs.declared.settings.Settings.{Settings}
 use Rattle.network.specs.Log.{packet, word, aim, sent, waiting}
 use Rattle.network.specs.Cycle.{Fabric, Places, State, golden_in, in_slot_order, wish_of, Before, Takes, Changed, Remains, Next, FirstEmpty, LetsIn, Filled, Work, Works}
-use Rattle.network.specs.Computed.{due, ahead, better, best, without, with_flit, or_else, if_empty, gap, next_of, placed, taken, left, entering, ready, handing}
+use Rattle.network.specs.Computed.{due, ahead, better, best, without, with_flit, if_empty, gap, next_of, placed, taken, left, entering, ready, handing}
 use Rattle.fabric.specs.Places.{place_same, port_cases, place_below}
 use Rattle.network.proofs.Places.{some_none, pair_some}
 
@@ -143,7 +144,7 @@ module _ (here : Places) where
   Gap k None = (q : Port) → place_of q < k → here q ≡ None → ⊥
   Gap k (Some p) = FirstEmpty here p
 
-  gap_step : (p : Port) (acc : Option Port) → Gap (place_of p) acc → (o : Option Flit) → here p ≡ o → Gap (place_of p + 1) (or_else acc (if_empty o p))
+  gap_step : (p : Port) (acc : Option Port) → Gap (place_of p) acc → (o : Option Flit) → here p ≡ o → Gap (place_of p + 1) (option_or acc (if_empty o p))
   gap_step p (Some q) u o e = u
   gap_step p None u None e = record { empty = e; first = λ q h. ⊎_elim (λ k. absurd (u q k h)) (λ k. k) (cases_lt (place_of q) (place_of p)) }
   gap_step p None u (Some f) e = λ q k h.
@@ -151,8 +152,8 @@ module _ (here : Places) where
 
   gap_of_all : Gap 4 (gap here)
   gap_of_all =
-      gap_step W (or_else (or_else (if_empty (here N) N) (if_empty (here E) E)) (if_empty (here S) S))
-      (gap_step S (or_else (if_empty (here N) N) (if_empty (here E) E))
+      gap_step W (option_or (option_or (if_empty (here N) N) (if_empty (here E) E)) (if_empty (here S) S))
+      (gap_step S (option_or (if_empty (here N) N) (if_empty (here E) E))
       (gap_step E (if_empty (here N) N)
       (gap_step N None (λ q k. absurd (omega arith)) (here N) refl) (here E) refl) (here S) refl) (here W) refl
 

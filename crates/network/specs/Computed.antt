@@ -1,5 +1,6 @@
 -- What one cycle, a call and a run come to, computed: the one solution of the relations in Cycle and Runs.
 use Rattle.std.specs.Prelude.{ℕ, ◌+◌, Bool, cond, not, ◌&&◌, ◌||◌, List, [], ◌∷◌, ◌++◌, Some, None, Option, ◌==◌, nat_lt}
+use Rattle.std.specs.Option.{option_or}
 use Rattle.fabric.specs.declared.parts.Flit.{Flit}
 use Rattle.fabric.specs.declared.parts.Port.{Port}
 use Rattle.fabric.specs.declared.parts.Port.TheVariants.{N, E, S, W}
@@ -43,17 +44,13 @@ abbrev pub with_flit : Option (Port × Flit) → Places → Places
 with_flit None here p = here p
 with_flit (Some b) here p = cond (same b.0 p) (Some b.1) (here p)
 
--- the first empty place, in slot order
-abbrev pub or_else : Option Port → Option Port → Option Port
-or_else (Some p) q = Some p
-or_else None q = q
-
 abbrev pub if_empty : Option Flit → Port → Option Port
 if_empty None p = Some p
 if_empty (Some f) p = None
 
+-- the first empty place, in slot order
 abbrev pub gap : Places → Option Port
-gap here = or_else (or_else (or_else (if_empty (here N) N) (if_empty (here E) E)) (if_empty (here S) S)) (if_empty (here W) W)
+gap here = option_or (option_or (option_or (if_empty (here N) N) (if_empty (here E) E)) (if_empty (here S) S)) (if_empty (here W) W)
 
 module _ (F : Fabric) (P : Settings) (s : State) where
   unfoldable pub taken : ℕ → Option (Port × Flit)
