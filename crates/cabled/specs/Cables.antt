@@ -4,10 +4,10 @@ use Rattle.fabric.specs.declared.parts.Cable.{Cable}
 use Rattle.fabric.specs.declared.parts.Port.{Port}
 use Rattle.fabric.specs.declared.parts.Port.TheVariants.{N}
 use Rattle.fabric.specs.declared.parts.Slot.{Slot}
-use Rattle.fabric.specs.Ports.{looked_at}
 use Rattle.fabric.specs.Layouts.{Plan, Leads}
 use Rattle.fabric.specs.Verdicts.{Verdict}
 use Rattle.fabric.specs.Verdicts.Verdict.{granted, refused}
+use Rattle.fabric.specs.Ports.{looked_at}
 
 -- a cable by its place in the list
 abbrev pub cable_at : List Cable → ℕ → Cable

@@ -4,9 +4,9 @@ use Rattle.std.proofs.Common.{sym, ◌∙◌, ap, subst, ⊎_elim, arith}
 use Rattle.std.proofs.lemmas.Bool.{lt-ltb, le-ltb, eqb-true, eq-eqb, ne_eqb, cond-true, cond-false, both_ways, cases_eq}
 use Rattle.fabric.specs.declared.parts.Port.{Port}
 use Rattle.fabric.specs.declared.parts.Slot.{Slot}
+use Rattle.fabric.specs.Layouts.{Plan, Lawful, Leads, both}
 use Rattle.fabric.specs.Grid.{both_in, both_out}
 use Rattle.fabric.specs.Places.{Pick, pick}
-use Rattle.fabric.specs.Layouts.{Plan, Lawful, Leads, both}
 use Rattle.cabled.specs.Cables.{Wished}
 use Rattle.cabled.specs.Tables.{far_at, distance_at, leads, wish_at, cabled_plan, Paired, Within, Nearing}
 

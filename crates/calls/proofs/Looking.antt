@@ -4,6 +4,7 @@ use Rattle.std.proofs.lemmas.Bool.{le-leb, lt-leb, or_left, or_right, or_from, c
 use Rattle.fabric.specs.Ports.{port_of}
 use Rattle.fabric.specs.Verdicts.{Verdict}
 use Rattle.fabric.specs.Verdicts.Verdict.{granted, refused}
+use Rattle.fabric.specs.Places.{place_of_port}
 use Rattle.network.specs.Cycle.{Fabric, State}
 use Rattle.network.specs.Runs.{look_verdict}
 use Rattle.network.specs.Runs.Call.{look}
@@ -11,7 +12,6 @@ use Rattle.network.specs.Runs.Outcome.{looking}
 use Rattle.calls.specs.declared.tables.Tables.{Tables}
 use Rattle.calls.specs.Follow.{Shows}
 use Rattle.calls.proofs.Promising.{Works, nothing_done}
-use Rattle.fabric.specs.Places.{place_of_port}
 
 module _ (F : Fabric) (i : Tables) (n k : ℕ) where
   looked : (v : Verdict _) → ((s : State) → Shows F i s → v ≡ look_verdict F i.settings s n k) → Works F i i (look n k) (looking v)

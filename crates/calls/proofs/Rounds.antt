@@ -8,6 +8,7 @@ use Rattle.fabric.specs.Layouts.{Lawful}
 use Rattle.fabric.specs.Ports.{place_of}
 use Rattle.fabric.specs.Verdicts.{Verdict, granting}
 use Rattle.fabric.specs.Verdicts.Verdict.{granted, refused}
+use Rattle.fabric.specs.Places.{place_below}
 use Rattle.fabric.proofs.Following.{far_exists}
 use Rattle.line.specs.Queues.{Queue}
 use Rattle.batch.specs.Items.{items}
@@ -27,7 +28,6 @@ use Rattle.calls.specs.Steps.{far_place}
 use Rattle.calls.specs.Follow.{slot_of, Records, Queued, Shows}
 use Rattle.calls.specs.Midway.{Reached, Midway, NodeWorks, Round}
 use Rattle.calls.proofs.Promising.{Works, nothing_done}
-use Rattle.fabric.specs.Places.{place_below}
 use Rattle.calls.proofs.Putting.{put_length}
 use Rattle.calls.proofs.Working.{told_few}
 

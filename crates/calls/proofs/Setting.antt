@@ -5,6 +5,7 @@ use Rattle.std.proofs.lemmas.Bool.{cond-false, or_from, le-ltb}
 use Rattle.fabric.specs.Ports.{place_of}
 use Rattle.fabric.specs.Layouts.{Plan, Lawful}
 use Rattle.fabric.specs.Verdicts.Verdict.{granted}
+use Rattle.fabric.specs.Places.{place_below}
 use Rattle.switch.specs.Switches.{LawfulSwitch}
 use Rattle.bounds.specs.declared.settings.Settings.{Settings}
 use Rattle.bounds.specs.SetUp.{all_tickets, set_up_verdict}
@@ -12,14 +13,13 @@ use Rattle.clock.specs.Draws.{register}
 use Rattle.network.specs.Cycle.{Fabric}
 use Rattle.network.specs.Runs.{fresh}
 use Rattle.network.specs.Runs.Leads.{set_up}
+use Rattle.network.proofs.Kept.{accepted}
 use Rattle.calls.specs.declared.tables.Tables.{Tables}
 use Rattle.calls.specs.declared.ticket.Ticket.{Ticket}
 use Rattle.calls.specs.Fits.{Fits}
 use Rattle.calls.specs.Records.{Starts}
 use Rattle.calls.specs.Follow.{Entry, Follows, Begins, slot_of}
 use Rattle.calls.proofs.Promising.{whole}
-use Rattle.fabric.specs.Places.{place_below}
-use Rattle.network.proofs.Kept.{accepted}
 
 pub ticket_below : (F : Fabric) → Lawful F.plan → (P : Settings) → P.tickets ≤ 8 → all_tickets F.plan P ≤ 512
 ticket_below F law P h =

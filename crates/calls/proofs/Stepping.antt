@@ -10,11 +10,11 @@ use Rattle.fabric.specs.declared.parts.Slot.{Slot}
 use Rattle.fabric.specs.declared.parts.Flit.{Flit}
 use Rattle.fabric.specs.Layouts.{Plan, Lawful}
 use Rattle.fabric.specs.Ports.{place_of, port_of}
+use Rattle.fabric.specs.Places.{place_of_port, place_below, port_of_place, slot_same}
 use Rattle.fabric.proofs.Following.{far_exists}
 use Rattle.switch.specs.Switches.{at}
 use Rattle.network.specs.Computed.{due, better, best}
 use Rattle.calls.specs.Steps.{none_at, far_place, best_upto, Spread, SpreadUpto, Unsent}
-use Rattle.fabric.specs.Places.{place_of_port, place_below, port_of_place, slot_same}
 
 pub best_all : (g k : ℕ) (here : Port → Option Flit) (r : Option (Port × Flit)) → k ≡ 4 → r ≡ best_upto g here k → r ≡ best g here
 best_all g k here r e h = h ∙ ap (best_upto g here) e

@@ -21,13 +21,13 @@ use Rattle.network.specs.Runs.{put_all, told, count_off, event_of}
 use Rattle.network.specs.Computed.{due, best, without, taken, left}
 use Rattle.network.proofs.Invariant.{Inv, Sits, Opened}
 use Rattle.network.proofs.Nodes.{taken_here}
+use Rattle.network.proofs.Places.{at_ordered}
 use Rattle.calls.specs.declared.ticket.Ticket.{Ticket}
 use Rattle.calls.specs.declared.tables.Tables.{Tables}
 use Rattle.calls.specs.Records.{lines, Keeps, Receives, TakesIn}
 use Rattle.calls.specs.Follow.{slot_of, Recorded, Entry, Records, Queued}
 use Rattle.calls.specs.Midway.{Reached, Between, Took, TakesOff}
 use Rattle.calls.proofs.Showing.{like, change, entry_more, entry_none, get_or_some, invariant}
-use Rattle.network.proofs.Places.{at_ordered}
 
 pub set_ordered : (here : Port → Option Flit) (p : Port) (o : Option Flit) → set (in_slot_order here) (place_of p) o ≡ in_slot_order (λ q. cond (same p q) o (here q))
 set_ordered here N o = refl

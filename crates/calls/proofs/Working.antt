@@ -19,6 +19,10 @@ use Rattle.network.specs.Runs.{put_all, told, count_off}
 use Rattle.network.specs.Computed.{taken, left, entering, ready, handing, leaving, done}
 use Rattle.network.proofs.Invariant.{Inv}
 use Rattle.network.proofs.Cycling.{off_packet, off_waiting, off_sent, keeps_packet, keeps_waiting, keeps_sent, grown, half_log, grown_none, grown_more}
+use Rattle.network.proofs.Places.{at_ordered}
+use Rattle.network.proofs.Solving.{news_done, told_both}
+use Rattle.network.proofs.Seen.{few_told}
+use Rattle.network.proofs.Choosing.{computed}
 use Rattle.calls.specs.declared.ticket.Ticket.{Ticket}
 use Rattle.calls.specs.declared.tables.Tables.{Tables}
 use Rattle.calls.specs.Records.{Draws}
@@ -28,10 +32,6 @@ use Rattle.calls.specs.Midway.{Reached, Between, Took, TakesOff, Own, Let, Enter
 use Rattle.calls.proofs.Putting.{put_length, put_more}
 use Rattle.calls.proofs.Stepping.{far_same}
 use Rattle.calls.proofs.Showing.{invariant}
-use Rattle.network.proofs.Places.{at_ordered}
-use Rattle.network.proofs.Solving.{news_done, told_both}
-use Rattle.network.proofs.Seen.{few_told}
-use Rattle.network.proofs.Choosing.{computed}
 
 -- the count of happenings
 count_append : (xs ys : Log) → count_off (xs ++ ys) ≡ count_off ys + count_off xs

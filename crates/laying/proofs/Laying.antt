@@ -7,16 +7,16 @@ use Rattle.fabric.specs.declared.parts.Cable.{Cable}
 use Rattle.fabric.specs.Layouts.{Plan}
 use Rattle.fabric.specs.Verdicts.{Verdict}
 use Rattle.fabric.specs.Verdicts.Verdict.{granted, refused}
+use Rattle.fabric.specs.Places.{place_below, slot_same}
 use Rattle.cabled.specs.Cables.{Cabling, lone, cable_at, Fair, Good, AllGood}
 use Rattle.cabled.specs.Cables.Cabling.{unfair, bad, unreached, cabled}
+use Rattle.cabled.specs.Tables.{index}
 use Rattle.text.specs.declared.fault.Fault.{Fault}
 use Rattle.text.specs.declared.parts.Shape.{Shape}
 use Rattle.text.specs.Faults.{told}
 use Rattle.laying.specs.Reports.{Report, reported}
 use Rattle.laying.specs.Reports.Report.{faults}
 use Rattle.laying.specs.Layings.{Laid}
-use Rattle.fabric.specs.Places.{place_below, slot_same}
-use Rattle.cabled.specs.Tables.{index}
 
 -- what is cabled, seen as plans
 pub as_plans : {A : Type 0} (plan : A → Plan) {k : ℕ} {cs : List Cable} {x y : A} {v : Verdict Unit} → plan x ≡ lone →

@@ -9,11 +9,11 @@ use Rattle.fabric.specs.declared.parts.Flit.{Flit}
 use Rattle.fabric.specs.declared.parts.Port.{Port}
 use Rattle.fabric.specs.declared.parts.Port.TheVariants.{N, E, S, W}
 use Rattle.fabric.specs.Ports.{place_of, same}
+use Rattle.fabric.specs.Places.{place_same, port_cases, place_below}
 use Rattle.bounds.specs.declared.settings.Settings.{Settings}
 use Rattle.network.specs.Log.{packet, word, aim, sent, waiting}
 use Rattle.network.specs.Cycle.{Fabric, Places, State, golden_in, in_slot_order, wish_of, Before, Takes, Changed, Remains, Next, FirstEmpty, LetsIn, Filled, Work, Works}
 use Rattle.network.specs.Computed.{due, ahead, better, best, without, with_flit, if_empty, gap, next_of, placed, taken, left, entering, ready, handing}
-use Rattle.fabric.specs.Places.{place_same, port_cases, place_below}
 use Rattle.network.proofs.Places.{some_none, pair_some}
 
 -- an earlier side, or this one

@@ -6,6 +6,7 @@ use Rattle.fabric.specs.declared.parts.Flit.{Flit}
 use Rattle.fabric.specs.declared.parts.Slot.{Slot}
 use Rattle.fabric.specs.declared.parts.Port.{Port}
 use Rattle.fabric.specs.Layouts.{Exists, Missing, Lawful}
+use Rattle.fabric.specs.Places.{port_cases}
 use Rattle.fabric.proofs.Following.{far_exists}
 use Rattle.switch.specs.Switches.{at}
 use Rattle.bounds.specs.declared.settings.Settings.{Settings}
@@ -13,7 +14,6 @@ use Rattle.network.specs.Cycle.{Fabric, State, golden_in, wish_of, Destined, Tak
 use Rattle.network.specs.Computed.{taken, left, entering, ready, handing, leaving, arriving}
 use Rattle.network.proofs.Places.{some_none, pair_some, at_ordered, at_turned}
 use Rattle.network.proofs.Choosing.{work_is}
-use Rattle.fabric.specs.Places.{port_cases}
 
 module _ (F : Fabric) (P : Settings) (s : State) where
   taken_law : (n : ℕ) (p : Port) (f : Flit) → taken F P s n ≡ Some (p, f) → Takes (golden_in F P s.cycles) n (s.slot n) (Some (p, f))

@@ -1,6 +1,7 @@
 -- The invariant after every run of calls, and what one call changes.
 use Rattle.std.proofs.Common.{◌≡◌, ℕ, ◌<◌, ◌≤◌, Bool, true, false, cond, not, ◌||◌, eqb, ltb, leb, ◌⊎◌, List, [], ◌∷◌, ◌++◌, length, None, refl, inl, inr, arith}
 use Rattle.std.proofs.lemmas.Bool.{eqb-true, eqb-false, leb-false, ltb-false, or_parts, not-false, both_ways}
+use lib.Arith.{digits_lt}
 use Rattle.fabric.specs.Layouts.{Lawful}
 use Rattle.network.specs.Log.{Log, packet, size, aim, free, complete, gathered}
 use Rattle.network.specs.Log.Happening.{offered, collected}
@@ -17,7 +18,6 @@ use Rattle.network.proofs.Places.{some_none}
 use Rattle.network.proofs.Invariant.{Inv}
 use Rattle.network.proofs.Offering.{inv_offer, inv_collect}
 use Rattle.network.proofs.Cycling.{inv_cycle}
-use lib.Arith.{digits_lt}
 
 -- the first test of a verdict that grants has failed
 pub peel : {A : Type 0} (k : ℕ) (b : Bool) (v : Verdict A) (a : A) → cond b (refused k []) v ≡ granted a → (b ≡ false) × (v ≡ granted a)

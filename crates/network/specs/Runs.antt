@@ -1,17 +1,17 @@
 -- The calls that a network receives, what each is answered, and where a run of calls leads.
 use Rattle.std.specs.Prelude.{◌≡◌, ℕ, ◌+◌, ◌*◌, Bool, not, ◌||◌, List, [], ◌∷◌, ◌++◌, length, drop, None, Option, ◌==◌, nat_le, nat_lt}
 use Rattle.fabric.specs.declared.parts.Flit.{Flit}
-use Rattle.fabric.specs.Ports.{port_of}
 use Rattle.fabric.specs.Verdicts.{Verdict, judged}
 use Rattle.fabric.specs.Verdicts.Verdict.{granted, refused}
+use Rattle.fabric.specs.Ports.{port_of}
 use Rattle.line.specs.Queues.{Queue, free_places, put}
 use Rattle.bounds.specs.declared.settings.Settings.{Settings}
 use Rattle.network.specs.declared.event.Event.{Event}
-use Rattle.network.specs.declared.event.Kind.{Kind}
 use Rattle.network.specs.declared.event.Kind.TheVariants.{In, Out}
 use Rattle.network.specs.Log.{Happening, Log, packet, size, aim, free, complete, gathered}
 use Rattle.network.specs.Log.Happening.{offered, entered, off, collected}
 use Rattle.network.specs.Cycle.{Fabric, State, Cycle, happened}
+use Rattle.network.specs.declared.event.Kind.{Kind}
 
 pub data Call : Type 0 where
   -- node, own ticket, destination, words

@@ -1,9 +1,9 @@
 use Rattle.std.proofs.Common.{◌≡◌, ℕ, ◌<◌, ◌++◌, get_or, drop, None, unwrap_or, sym, ap, ◌∙◌, rules, arith}
 use Rattle.network.specs.Runs.{over}
+use Rattle.network.proofs.Offering.{words_upto}
 use Rattle.calls.specs.Records.{values}
 use Rattle.calls.proofs.Recording.{length_values}
 use Rattle.calls.proofs.ticket.Ticket.write.Goals as goal
-use Rattle.network.proofs.Offering.{words_upto}
 
 pub returns : goal.returns
 returns c =
