@@ -15,9 +15,11 @@ lines i = map items i.waits
 abbrev pub line_at : Tables → ℕ → List ℕ
 line_at i n = slice_index_or (lines i) n []
 
+-- the first m places all hold a word
 abbrev pub all_in : List (Option ℕ) → ℕ → Bool
 all_in xs = all_held (λ k. slice_index_or xs k None)
 
+-- the words of the first m places
 abbrev pub values : List (Option ℕ) → ℕ → List ℕ
 values xs = words_of (λ k. slice_index_or xs k None)
 

@@ -42,7 +42,7 @@ module _ (g : ℕ) (here : Places) where
 
   on_this : (p : Port) (f : Flit) (q : Port) (h : Flit) → q ≡ p → here p ≡ Some f → here q ≡ Some h → Before g p f q h
   on_this p f q h e u v =
-      let w : f ≡ h = same_Some f h (sym u ∙ (subst (λ (x : Port). here x ≡ Some h) e v)) in
+      let w : f ≡ h = same_Some f h (sym u ∙ subst (λ (x : Port). here x ≡ Some h) e v) in
       record { golden_first = λ t. (ap (λ (x : Flit). x.ticket) w ∙ t, (let y = ap (λ (x : Flit). x.number) w in omega arith)); else_first = λ t. let y : place_of q ≡ place_of p = ap place_of e in omega arith }
 
   step : (p : Port) (acc : Option (Port × Flit)) → Upto (place_of p) acc → (o : Option Flit) → here p ≡ o → Upto (place_of p + 1) (better g acc p o)
@@ -74,7 +74,7 @@ module _ (g : ℕ) (here : Places) where
         λ q h k v. ⊎_elim
             (λ z. u.2 q h z v)
             (λ z.
-            let r : f ≡ h = same_Some f h (sym e ∙ (subst (λ (x : Port). here x ≡ Some h) z v)) in
+            let r : f ≡ h = same_Some f h (sym e ∙ subst (λ (x : Port). here x ≡ Some h) z v) in
             record {
               golden_first = λ t. subst (λ (x : Flit). x.ticket ≡ g → (b.1.ticket ≡ g) × (b.1.number ≤ x.number)) r (ahead_no g f b.1 y) t;
               else_first = λ t. let i = u.1 in let j : place_of q ≡ place_of p = ap place_of z in omega arith;

@@ -30,7 +30,7 @@ module _ (F : Fabric) (P : Settings) (s : State) where
       go (Some b) t k =
           ⊎_elim
           (λ d.
-          let w : b.1 ≡ f = same_Some b.1 f (sym (taken_here n b.0 b.1 t).0 ∙ (subst (λ (q : Port). s.slot n q ≡ Some f) d e)) in
+          let w : b.1 ≡ f = same_Some b.1 f (sym (taken_here n b.0 b.1 t).0 ∙ subst (λ (q : Port). s.slot n q ≡ Some f) d e) in
           inl (t ∙ pair_some b p f (sym d) w))
           (λ h. inr (k.others p h ∙ e)) (port_cases p b.0)
 
@@ -60,7 +60,7 @@ module _ (F : Fabric) (P : Settings) (s : State) where
       go (Some b) t k =
           ⊎_elim
           (λ d.
-          let w : b.1 ≡ f = same_Some b.1 f (sym k.there ∙ (subst (λ (q : Port). ready F P s n q ≡ Some f) d e)) in
+          let w : b.1 ≡ f = same_Some b.1 f (sym k.there ∙ subst (λ (q : Port). ready F P s n q ≡ Some f) d e) in
           inl (t ∙ pair_some b p f (sym d) w))
           (λ h. inr (sym (k.others p h) ∙ e)) (port_cases p b.0)
 

@@ -65,7 +65,7 @@ received t k (entered f n ∷ l) = received t k l
 received t k (off f n c ∷ l) = cond (t == f.ticket && k == f.number) (Some f.word) (received t k l)
 received t k (collected u r ws ∷ l) = received t k l
 
--- the first m of these places all hold a word
+-- of numbered places, the first m all hold a word
 abbrev pub all_held : (ℕ → Option ℕ) → ℕ → Bool
 all_held w ℕ.zero = true
 all_held w (ℕ.suc m) = all_held w m && is_some (w m)
@@ -75,6 +75,7 @@ abbrev pub words_of : (ℕ → Option ℕ) → ℕ → List ℕ
 words_of w ℕ.zero = []
 words_of w (ℕ.suc m) = words_of w m ++ (unwrap_or (w m) 0 ∷ [])
 
+-- the first m places of a ticket's record all hold a word
 abbrev pub filled : ℕ → ℕ → Log → Bool
 filled t m l = all_held (λ k. received t k l) m
 
@@ -82,6 +83,7 @@ filled t m l = all_held (λ k. received t k l) m
 abbrev pub complete : ℕ → Log → Bool
 complete t l = not (free t l) && filled t (size (packet t l)) l
 
+-- the words of the first m places of a ticket's record
 abbrev pub gathered : ℕ → ℕ → Log → List ℕ
 gathered t m l = words_of (λ k. received t k l) m
 
