@@ -4,10 +4,12 @@ use Rattle.std.proofs.lemmas.Bool.{le-ltb, eq-eqb, ne_eqb, cond-true, cond-false
 use Rattle.fabric.specs.declared.parts.Cable.{Cable}
 use Rattle.fabric.specs.declared.parts.Port.{Port}
 use Rattle.fabric.specs.declared.parts.Slot.{Slot}
+use Rattle.fabric.specs.Ports.{first}
+use Rattle.fabric.specs.Places.{Pick, pick}
 use Rattle.cabled.specs.Cables.{Least, Means}
 use Rattle.cabled.specs.Levels.{Nearest}
-use Rattle.cabled.specs.Tables.{far_at, next_at, distance_at, leads, first, wish_at, cabled_plan, Paired, Wired, Nearing, Measured}
-use Rattle.cabled.specs.Laws.{Pick, pick, far_in, distance_in, wished}
+use Rattle.cabled.specs.Tables.{far_at, next_at, distance_at, leads, wish_at, cabled_plan, Paired, Wired, Nearing, Measured}
+use Rattle.cabled.specs.Laws.{far_in, distance_in, wished}
 use Rattle.cabled.proofs.Plugs.{return, ends, led, there}
 use Rattle.cabled.proofs.Walks.{least}
 

@@ -1,10 +1,12 @@
 -- The rounds find the fewest steps.
-use Rattle.std.proofs.Common.{◌≡◌, ℕ, zero, suc, ◌+◌, ◌-◌, ◌<◌, ◌≤◌, Bool, true, false, cond, ltb, ◌⊎◌, List, [], ◌∷◌, get_or, set, replicate, Some, None, Option, unwrap_or, sym, refl, ap, ◌∙◌, subst, inl, inr, ⊎_elim, add-one, arith}
+use Rattle.std.proofs.Common.{◌≡◌, ℕ, zero, suc, ◌+◌, ◌<◌, ◌≤◌, Bool, true, false, ◌⊎◌, List, [], ◌∷◌, get_or, set, replicate, Some, None, Option, unwrap_or, sym, refl, ap, ◌∙◌, subst, inl, inr, ⊎_elim, add-one, arith, eqb, length}
 use Rattle.std.proofs.lemmas.List.{get_or-set_same, get_or-set_other, get_or-replicate, length-replicate}
 use Rattle.std.proofs.lemmas.List.Folds.{Any-from_list_any}
-use Rattle.std.proofs.lemmas.Bool.{eqb-true, eq-eqb, lt-ltb, le-ltb, cond-true, cond-false, both_ways, false≢true, or_left, or_right, cases_eq, cases_lt}
+use Rattle.std.proofs.lemmas.Bool.{eqb-true, eq-eqb, both_ways, false≢true, or_left, or_right, cases_eq, cases_lt}
 use Rattle.std.specs.Bool.{then_some}
 use Rattle.std.specs.Option.{option_or}
+use Rattle.std.proofs.lemmas.Map.Steps.{le-length_from_below}
+use Rattle.std.specs.List.{list_any}
 use Rattle.fabric.specs.declared.parts.Port.{Port}
 use Rattle.fabric.specs.declared.parts.Port.TheVariants.{N, E, S, W}
 use Rattle.cabled.specs.Levels.{any, at, again, Way, Found, Level}
@@ -18,35 +20,25 @@ some_any f E e = or_right (f N) _ (or_left _ _ e)
 some_any f S e = or_right (f N) _ (or_right (f E) _ (or_left _ _ e))
 some_any f W e = or_right (f N) _ (or_right (f E) _ (or_right (f S) _ (or_left _ _ e)))
 
--- the numbers other than v, moved together
-without : ℕ → ℕ → ℕ
-without v x = cond (ltb v x) (x - 1) x
+-- what the first n numbers are mapped to
+abbrev values : (ℕ → ℕ) → ℕ → List ℕ
+values f zero = []
+values f (suc n) = f n ∷ values f n
 
-without_low : (v x : ℕ) → x ≤ v → without v x ≡ x
-unfolding without
-without_low v x l = cond-false (ltb v x) _ _ (le-ltb v x l)
+length_values : (f : ℕ → ℕ) (n : ℕ) → length (values f n) ≡ n
+length_values f zero = refl
+length_values f (suc n) = ap suc (length_values f n)
 
-without_high : (v x j : ℕ) → v < x → x ≡ suc j → without v x ≡ j
-unfolding without
-without_high v x j l e = cond-true (ltb v x) _ _ (lt-ltb v x l) ∙ omega arith
+value_met : (f : ℕ → ℕ) (n u : ℕ) → u < n → list_any (eqb (f u)) (values f n) ≡ true
+value_met f zero u l = absurd (omega arith)
+value_met f (suc n) u l =
+    ⊎_elim (λ e. or_left _ _ (eq-eqb (f u) (f n) (ap f e))) (λ h. or_right (eqb (f u) (f n)) _ (value_met f n u (omega arith))) (cases_eq u n)
 
 -- where each value below k is met among n numbers, k is at most n
 few_values : (n : ℕ) (f : ℕ → ℕ) (k : ℕ) → ((j : ℕ) → j < k → (u : ℕ) × (u < n) × (f u ≡ j)) → k ≤ n
-few_values zero f k h = ⊎_elim (λ l. absurd (omega (arith, (h 0 l).1))) (λ l. l) (cases_lt 0 k)
-few_values (suc n) f k h =
-    ⊎_elim
-    (λ l.
-    let i : k - 1 ≤ n = few_values n (λ u. without (f n) (f u)) (k - 1) (λ j q.
-    ⊎_elim
-    (λ a. let m = h j (omega arith) in (m.0, rest m.0 m.1 (λ e. omega (arith, m.2)), without_low (f n) (f m.0) (omega (arith, m.2)) ∙ m.2))
-    (λ a. let m = h (suc j) (omega arith) in (m.0, rest m.0 m.1 (λ e. omega (arith, m.2)), without_high (f n) (f m.0) j (omega (arith, m.2)) m.2))
-    (cases_lt j (f n))) in
-    omega arith)
-    (λ l. let i : k ≤ n = few_values n f k (λ j q. let m = h j q in (m.0, rest m.0 m.1 (λ e. omega (arith, m.2)), m.2)) in omega arith)
-    (cases_lt (f n) k)
-  where
-    rest : (u : ℕ) → u < suc n → (f u ≡ f n → ⊥) → u < n
-    rest u l e = ⊎_elim (λ a. a) (λ a. absurd (e (ap f (let z : u ≡ n = omega arith in z)))) (cases_lt u n)
+few_values n f k h =
+    subst (λ m. k ≤ m) (length_values f n)
+    (le-length_from_below (values f n) k (λ j l. let m = h j l in subst (λ v. list_any (eqb v) (values f n) ≡ true) m.2 (value_met f n m.0 m.1)))
 
 at_true : (l : ℕ) (o : Option ℕ) → at l o ≡ true → o ≡ Some l
 at_true l (Some d) e = ap Some (eqb-true d l e)

@@ -1,49 +1,20 @@
 -- A table of ends has exactly the cables that were plugged in.
-use Rattle.std.proofs.Common.{◌≡◌, ℕ, ◌+◌, ◌<◌, ◌≤◌, cond, eqb, ◌⊎◌, List, length, set, replicate, Some, None, Option, unwrap_or, sym, refl, ap, ◌∙◌, subst, inl, inr, ⊎_elim, arith, below_more}
+use Rattle.std.proofs.Common.{◌≡◌, ℕ, ◌+◌, ◌<◌, ◌≤◌, ◌⊎◌, List, length, set, replicate, Some, None, Option, unwrap_or, sym, refl, ap, ◌∙◌, subst, inl, inr, ⊎_elim, arith, below_more}
 use Rattle.std.proofs.lemmas.List.{get_or-set_same, get_or-set_other, get_or-replicate, length-set}
 use Rattle.std.proofs.lemmas.Bool.{cases_eq}
+use Rattle.std.proofs.lemmas.Option.{same_Some}
 use Rattle.fabric.specs.declared.parts.Cable.{Cable}
 use Rattle.fabric.specs.declared.parts.Port.{Port}
-use Rattle.fabric.specs.declared.parts.Port.TheVariants.{N, E, S, W}
 use Rattle.fabric.specs.declared.parts.Slot.{Slot}
-use Rattle.fabric.specs.Ports.{place_of}
+use Rattle.fabric.specs.Places.{place_below, slot_same}
 use Rattle.cabled.specs.Cables.{cable_at, Runs, Joined, Good}
 use Rattle.cabled.specs.Tables.{index, end_at, far_at, next_at, Paired, Wired, Free, Fits, plugged}
 
-port_at : ℕ → Port
-port_at n = cond (eqb n 0) N (cond (eqb n 1) E (cond (eqb n 2) S W))
-
-port_place : (p : Port) → port_at (place_of p) ≡ p
-unfolding port_at
-port_place N = refl
-port_place E = refl
-port_place S = refl
-port_place W = refl
-
-place_lt : (p : Port) → place_of p < 4
-place_lt N = omega arith
-place_lt E = omega arith
-place_lt S = omega arith
-place_lt W = omega arith
-
-index_inj : (s t : Slot) → index s ≡ index t → s ≡ t
-index_inj s t e =
-    let n : s.node ≡ t.node = omega (arith, place_lt s.port, place_lt t.port) in
-    let q : place_of s.port ≡ place_of t.port = omega (arith, place_lt s.port, place_lt t.port) in
-    let p = sym (port_place s.port) ∙ ap port_at q ∙ port_place t.port in
-    λ i. record { node = n i; port = p i }
-
 pub index_lt : (s : Slot) → s.node < 64 → index s < 256
-index_lt s l = omega (arith, place_lt s.port)
+index_lt s l = omega (arith, place_below s.port)
 
 cases_slot : (s t : Slot) → (s ≡ t) ⊎ (s ≡ t → ⊥)
-cases_slot s t = ⊎_elim (λ e. inl (index_inj s t e)) (λ e. inr (λ f. e (ap index f))) (cases_eq (index s) (index t))
-
-none_some : (o : Option Slot) (t : Slot) → o ≡ None → o ≡ Some t → ⊥
-none_some o t e f = cc
-
-same_some : (o : Option Slot) (s t : Slot) → o ≡ Some s → o ≡ Some t → s ≡ t
-same_some o s t e f = cc
+cases_slot s t = ⊎_elim (λ e. inl (slot_same s t e)) (λ e. inr (λ f. e (ap index f))) (cases_eq (index s) (index t))
 
 none_if : (o : Option Slot) → ((t : Slot) → o ≡ Some t → ⊥) → o ≡ None
 none_if None h = refl
@@ -71,7 +42,7 @@ pub wired_none : (k : ℕ) (cs : List Cable) → Wired k 0 cs (replicate 256 Non
 wired_none k cs = record {
   good = λ i l. absurd (omega arith);
   has = λ s t j. absurd (omega (arith, j.1));
-  only = λ s t l e. absurd (none_some _ t (get_or-replicate 256 (index s) None None (index_lt s l)) e);
+  only = λ s t l e. cc (get_or-replicate {A = Option Slot} 256 (index s) None None (index_lt s l), e);
 }
 
 -- a good cable fits
@@ -88,7 +59,7 @@ module _ (k : ℕ) (few : k ≤ 64) (c : Cable) (ts : List (Option Slot)) (long 
 
   at_one : end_at after c.one ≡ Some c.other
   at_one =
-      get_or-set_other (set ts (index c.one) (Some c.other)) (index c.other) (index c.one) (Some c.one) None (λ e. fits.0 (index_inj c.one c.other e))
+      get_or-set_other (set ts (index c.one) (Some c.other)) (index c.other) (index c.one) (Some c.one) None (λ e. fits.0 (slot_same c.one c.other e))
       ∙ get_or-set_same ts (index c.one) (Some c.other) None (omega (arith, index_lt c.one (omega (arith, fits.1.0))))
 
   at_other : end_at after c.other ≡ Some c.one
@@ -98,8 +69,8 @@ module _ (k : ℕ) (few : k ≤ 64) (c : Cable) (ts : List (Option Slot)) (long 
 
   at_rest : (s : Slot) → (s ≡ c.one → ⊥) → (s ≡ c.other → ⊥) → end_at after s ≡ end_at ts s
   at_rest s p q =
-      get_or-set_other (set ts (index c.one) (Some c.other)) (index c.other) (index s) (Some c.one) None (λ e. q (index_inj s c.other e))
-      ∙ get_or-set_other ts (index c.one) (index s) (Some c.other) None (λ e. p (index_inj s c.one e))
+      get_or-set_other (set ts (index c.one) (Some c.other)) (index c.other) (index s) (Some c.one) None (λ e. q (slot_same s c.other e))
+      ∙ get_or-set_other ts (index c.one) (index s) (Some c.other) None (λ e. p (slot_same s c.one e))
 
   abbrev Leads : Slot → Slot → Type 0
   Leads s t = far_at after s ≡ t
@@ -146,14 +117,14 @@ module _ (k i : ℕ) (few : k ≤ 64) (cs : List Cable) (ts : List (Option Slot)
 
   old : (s t : Slot) → end_at ts s ≡ Some t → end_at (plugged ts c) s ≡ Some t
   old s t e =
-      at_rest k few c ts long fits s (λ p. none_some (end_at ts s) t (ap (end_at ts) p ∙ fits.1.1) e) (λ p. none_some (end_at ts s) t (ap (end_at ts) p ∙ fits.2.1) e) ∙ e
+      at_rest k few c ts long fits s (λ p. cc (ap (end_at ts) p ∙ fits.1.1, e)) (λ p. cc (ap (end_at ts) p ∙ fits.2.1, e)) ∙ e
 
   only_more : (s t : Slot) → s.node < 64 → end_at (plugged ts c) s ≡ Some t → Joined cs (i + 1) s t
   only_more s t l e = go (cases_slot s c.one) (cases_slot s c.other)
     where
       go : (s ≡ c.one) ⊎ (s ≡ c.one → ⊥) → (s ≡ c.other) ⊎ (s ≡ c.other → ⊥) → Joined cs (i + 1) s t
-      go (inl p) q = (i, omega arith, inl (sym p, same_some _ c.other t (ap (end_at (plugged ts c)) p ∙ at_one k few c ts long fits) e))
-      go (inr p) (inl q) = (i, omega arith, inr (sym q, same_some _ c.one t (ap (end_at (plugged ts c)) q ∙ at_other k few c ts long fits) e))
+      go (inl p) q = (i, omega arith, inl (sym p, same_Some c.other t (sym (ap (end_at (plugged ts c)) p ∙ at_one k few c ts long fits) ∙ e)))
+      go (inr p) (inl q) = (i, omega arith, inr (sym q, same_Some c.one t (sym (ap (end_at (plugged ts c)) q ∙ at_other k few c ts long fits) ∙ e)))
       go (inr p) (inr q) = let j = w.only s t l (sym (at_rest k few c ts long fits s p q) ∙ e) in (j.0, omega (arith, j.1), j.2)
 
   pub wired_more : Wired k (i + 1) cs (plugged ts c)
@@ -161,7 +132,7 @@ module _ (k i : ℕ) (few : k ≤ 64) (cs : List Cable) (ts : List (Option Slot)
     good = below_more (Good k cs) i w.good (record {
       there = λ s t r. (free s t r).0;
       two = fits.0;
-      fresh = λ s t u r j. none_some (end_at ts s) u (free s t r).1 (w.has s u j);
+      fresh = λ s t u r j. cc ((free s t r).1, w.has s u j);
     });
     has = λ s t j.
         ⊎_elim (λ e. new s t (subst (λ x. Runs (cable_at cs x) s t) e j.2)) (λ e. old s t (w.has s t (j.0, omega (arith, j.1), j.2)))

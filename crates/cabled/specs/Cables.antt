@@ -2,11 +2,12 @@
 use Rattle.std.specs.Prelude.{◌≡◌, ℕ, suc, ◌<◌, ◌≤◌, ◌⊎◌, List, [], ◌∷◌, length, Some, None, Option, slice_index_or}
 use Rattle.fabric.specs.declared.parts.Cable.{Cable}
 use Rattle.fabric.specs.declared.parts.Port.{Port}
-use Rattle.fabric.specs.declared.parts.Port.TheVariants.{N, E, S, W}
+use Rattle.fabric.specs.declared.parts.Port.TheVariants.{N}
 use Rattle.fabric.specs.declared.parts.Slot.{Slot}
 use Rattle.fabric.specs.Layouts.{Plan, Leads}
 use Rattle.fabric.specs.Verdicts.{Verdict}
 use Rattle.fabric.specs.Verdicts.Verdict.{granted, refused}
+use Rattle.fabric.specs.Ports.{looked_at}
 
 -- a cable by its place in the list
 abbrev pub cable_at : List Cable → ℕ → Cable
@@ -29,16 +30,9 @@ pub data Walk (cs : List Cable) : ℕ → ℕ → ℕ → Type 0 where
 abbrev pub Least : List Cable → ℕ → ℕ → ℕ → Type 0
 Least cs m n d = Walk cs d m n × ((k : ℕ) → Walk cs k m n → d ≤ k)
 
--- the order in which ports are tried for a wish
-abbrev pub rank : Port → ℕ
-rank E = 0
-rank W = 1
-rank N = 2
-rank S = 3
-
 -- the first port that leads one nearer, and none where the flit has arrived
 abbrev pub Wished : Plan → ℕ → ℕ → Option Port → Type 0
-Wished p m n (Some w) = Leads p m n w × ((v : Port) → rank v < rank w → Leads p m n v → ⊥)
+Wished p m n (Some w) = Leads p m n w × ((v : Port) → looked_at v < looked_at w → Leads p m n v → ⊥)
 Wished p m n None = p.distance m n ≡ 0
 
 -- the layout of k nodes that the cables make

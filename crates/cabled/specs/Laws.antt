@@ -1,48 +1,27 @@
 -- The tables of a cabled layout keep the laws of a layout.
-use Rattle.std.specs.Prelude.{◌≡◌, ℕ, ◌+◌, ◌<◌, ◌≤◌, Bool, true, false, cond, ◌⊎◌, List, is_some, Some, None, Option, ◌==◌, ◌≢◌, nat_lt, refl}
-use Rattle.std.proofs.Common.{sym, ◌∙◌, ap, subst, inl, inr, ⊎_elim, arith}
-use Rattle.std.proofs.lemmas.Bool.{lt-ltb, le-ltb, eqb-true, eq-eqb, ne_eqb, cond-true, cond-false, and_from, and_left, and_right, both_ways, cases_eq}
+use Rattle.std.specs.Prelude.{◌≡◌, ℕ, ◌+◌, ◌<◌, ◌≤◌, true, List, is_some, Some, None, Option, ◌==◌, ◌≢◌, nat_lt, refl}
+use Rattle.std.proofs.Common.{sym, ◌∙◌, ap, subst, ⊎_elim, arith}
+use Rattle.std.proofs.lemmas.Bool.{lt-ltb, le-ltb, eqb-true, eq-eqb, ne_eqb, cond-true, cond-false, both_ways, cases_eq}
 use Rattle.fabric.specs.declared.parts.Port.{Port}
-use Rattle.fabric.specs.declared.parts.Port.TheVariants.{N, E, S, W}
 use Rattle.fabric.specs.declared.parts.Slot.{Slot}
 use Rattle.fabric.specs.Layouts.{Plan, Lawful, Leads, both}
-use Rattle.cabled.specs.Cables.{rank, Wished}
-use Rattle.cabled.specs.Tables.{far_at, distance_at, leads, first, wish_at, cabled_plan, Paired, Within, Nearing}
-
--- what the first port that passes a test says of the ports
-abbrev pub Pick : (Port → Bool) → Option Port → Type 0
-Pick f (Some w) = (f w ≡ true) × ((v : Port) → rank v < rank w → f v ≡ false)
-Pick f None = (v : Port) → f v ≡ false
-
-pub pick : (f : Port → Bool) → Pick f (first f)
-pick f = go (f E) (f W) (f N) (f S) refl refl refl refl
-  where
-    go : (e w n s : Bool) → f E ≡ e → f W ≡ w → f N ≡ n → f S ≡ s → Pick f (cond e (Some E) (cond w (Some W) (cond n (Some N) (cond s (Some S) None))))
-    go true w n s a b c d = (a, λ v l. absurd (omega arith))
-    go false true n s a b c d = (b, elim [ N ↦ λ l. absurd (omega arith) | E ↦ λ l. a | S ↦ λ l. absurd (omega arith) | W ↦ λ l. absurd (omega arith) ])
-    go false false true s a b c d = (c, elim [ N ↦ λ l. absurd (omega arith) | E ↦ λ l. a | S ↦ λ l. absurd (omega arith) | W ↦ λ l. b ])
-    go false false false true a b c d = (d, elim [ N ↦ λ l. c | E ↦ λ l. a | S ↦ λ l. absurd (omega arith) | W ↦ λ l. b ])
-    go false false false false a b c d = elim [ N ↦ c | E ↦ a | S ↦ d | W ↦ b ]
+use Rattle.fabric.specs.Grid.{both_in, both_out}
+use Rattle.fabric.specs.Places.{Pick, pick}
+use Rattle.cabled.specs.Cables.{Wished}
+use Rattle.cabled.specs.Tables.{far_at, distance_at, leads, wish_at, cabled_plan, Paired, Within, Nearing}
 
 module _ (k : ℕ) (ts : List (Option Slot)) (ds : List (List ℕ)) (r : ℕ) where
   abbrev plan : Plan
   plan = cabled_plan k ts ds r
 
-  both_in : (m n : ℕ) → m < k → n < k → both k m n ≡ true
-  both_in m n p q = and_from _ _ (lt-ltb _ _ p) (lt-ltb _ _ q)
-
-  both_out : (m n : ℕ) → (k ≤ m) ⊎ (k ≤ n) → both k m n ≡ false
-  both_out m n (inl p) = and_left _ _ (le-ltb _ _ p)
-  both_out m n (inr p) = and_right _ _ (le-ltb _ _ p)
-
   pub far_in : (s : Slot) → s.node < k → plan.far s.node s.port ≡ far_at ts s
   far_in s l = cond-true (nat_lt s.node k) _ _ (lt-ltb _ _ l)
 
   pub distance_in : (m n : ℕ) → m < k → n < k → plan.distance m n ≡ distance_at ds m n
-  distance_in m n p q = cond-true (both k m n) _ _ (both_in m n p q)
+  distance_in m n p q = cond-true (both k m n) _ _ (both_in k m n p q)
 
   wish_in : (m n : ℕ) → m < k → n < k → plan.wish m n ≡ wish_at ts ds m n
-  wish_in m n p q = cond-true (both k m n) _ _ (both_in m n p q)
+  wish_in m n p q = cond-true (both k m n) _ _ (both_in k m n p q)
 
   module _ (paired : Paired k ts) (nearing : Nearing k ts ds) where
     back : (n : ℕ) (s : Port) → n < k → plan.far (plan.far n s).node (plan.far n s).port ≡ record { node = n; port = s }
@@ -114,7 +93,7 @@ module _ (k : ℕ) (ts : List (Option Slot)) (ds : List (List ℕ)) (r : ℕ) wh
       near = few.2;
       absent = absent;
       nearer = nearer;
-      missing_distance = λ m n l. cond-false (both k m n) _ _ (both_out m n l);
-      missing_wish = λ m n l. cond-false (both k m n) _ _ (both_out m n l);
+      missing_distance = λ m n l. cond-false (both k m n) _ _ (both_out k m n l);
+      missing_wish = λ m n l. cond-false (both k m n) _ _ (both_out k m n l);
       missing_far = λ n s l. cond-false (nat_lt n k) _ _ (le-ltb _ _ l);
     }

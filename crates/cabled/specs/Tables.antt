@@ -1,13 +1,11 @@
 -- What the tables of a cabled layout mean.
-use Rattle.std.specs.Prelude.{◌≡◌, ℕ, ◌+◌, ◌*◌, ◌<◌, ◌≤◌, Bool, true, cond, List, [], ◌∷◌, is_some, Some, None, Option, ◌==◌, ◌≢◌, nat_lt, slice_index, slice_index_or, slice_set}
-use Rattle.std.specs.List.{find}
+use Rattle.std.specs.Prelude.{◌≡◌, ℕ, ◌+◌, ◌*◌, ◌<◌, ◌≤◌, Bool, true, cond, List, [], is_some, Some, None, Option, ◌==◌, ◌≢◌, nat_lt, slice_index, slice_index_or, slice_set}
 use Rattle.std.specs.Option.{unwrap_or}
 use Rattle.fabric.specs.declared.parts.Cable.{Cable}
 use Rattle.fabric.specs.declared.parts.Port.{Port}
-use Rattle.fabric.specs.declared.parts.Port.TheVariants.{N, E, S, W}
 use Rattle.fabric.specs.declared.parts.Slot.{Slot}
 use Rattle.fabric.specs.Layouts.{Plan, both}
-use Rattle.fabric.specs.Ports.{place_of}
+use Rattle.fabric.specs.Ports.{place_of, first}
 use Rattle.cabled.specs.Cables.{AllGood, Joined}
 use Rattle.cabled.specs.Levels.{Steps}
 
@@ -33,10 +31,6 @@ distance_at ds m n = slice_index (slice_index_or ds n []) m
 -- a port of m leads one nearer to n
 abbrev pub leads : List (Option Slot) → List (List ℕ) → ℕ → ℕ → Port → Bool
 leads ts ds m n p = distance_at ds (next_at ts m p) n + 1 == distance_at ds m n
-
--- the first of E, W, N, S that passes
-abbrev pub first : (Port → Bool) → Option Port
-first f = find f (E ∷ W ∷ N ∷ S ∷ [])
 
 abbrev pub wish_at : List (Option Slot) → List (List ℕ) → ℕ → ℕ → Option Port
 wish_at ts ds m n = first (leads ts ds m n)

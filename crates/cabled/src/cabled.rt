@@ -63,12 +63,11 @@ impl Cabled {
 }
 
 impl Layout for Cabled {
-    ghost use Rattle.cabled.specs.Plans.{plan_of};
-    ghost use Rattle.cabled.specs.Laws;
+    ghost use Rattle.cabled.specs.Plans.{plan_of, lawful_of};
 
     ghost plan = { plan_of };
 
-    ghost lawful = { λ c. Laws.lawful c.wiring.nodes c.wiring.ends c.spans.distances c.spans.reach c.wiring.paired c.nearing (c.wiring.fair.0, c.wiring.fair.1, c.spans.near) c.within };
+    ghost lawful = { lawful_of };
 
     fn nodes(&self) -> usize {
         self.wiring.nodes

@@ -1,5 +1,5 @@
 -- What a collection does.
-use Rattle.std.proofs.Common.{◌≡◌, ℕ, ◌<◌, ◌≤◌, Bool, true, false, cond, not, ◌&&◌, ◌||◌, eqb, ltb, leb, ◌⊎◌, List, [], ◌∷◌, ◌++◌, length, get_or, map, min, is_some, Some, None, Option, sym, refl, ap, ◌∙◌, subst, inl, inr, arith}
+use Rattle.std.proofs.Common.{◌≡◌, ℕ, ◌<◌, ◌≤◌, Bool, true, false, cond, not, ◌&&◌, ◌||◌, eqb, ltb, leb, ◌⊎◌, List, [], ◌∷◌, ◌++◌, length, get_or, map, min, is_some, Some, None, Option, sym, refl, ap, ◌∙◌, subst, inl, inr, arith, unwrap_or}
 use lib.Arith.{digits_lt}
 use Rattle.std.proofs.lemmas.Bool.{le-leb, lt-leb, le-ltb, lt-ltb, eq-eqb, ne_eqb, or_left, or_right, or_from, cond-true, cond-false}
 use Rattle.fabric.specs.Layouts.{Lawful}
@@ -8,7 +8,7 @@ use Rattle.fabric.specs.Verdicts.Verdict.{granted, refused}
 use Rattle.batch.specs.Items.{items}
 use Rattle.bounds.specs.declared.settings.Settings.{Settings}
 use Rattle.bounds.specs.SetUp.{all_tickets}
-use Rattle.network.specs.Log.{Log, packet, size, aim, free, received, has, value, filled, complete, gathered}
+use Rattle.network.specs.Log.{Log, packet, size, aim, free, received, filled, complete, gathered, all_held, words_of}
 use Rattle.network.specs.Log.Happening.{collected}
 use Rattle.network.specs.Cycle.{Fabric, State}
 use Rattle.network.specs.Runs.{ticket, missing, collect_verdict, with_log, over}
@@ -19,33 +19,30 @@ use Rattle.calls.specs.declared.tables.Tables.{Tables}
 use Rattle.calls.specs.declared.ticket.Ticket.{Ticket}
 use Rattle.calls.specs.Records.{all_in, values, arrived, lines, Frees}
 use Rattle.calls.specs.Follow.{Shows, Recorded, Entry, Records, Queued}
-use Rattle.calls.proofs.Promising.{Works}
+use Rattle.calls.proofs.Promising.{Works, nothing_done}
 use Rattle.calls.proofs.Setting.{ticket_below}
 use Rattle.calls.proofs.Showing.{like, change, logged}
 
 -- what a record says of its packet is what the log says
-all_filled : (xs : List (Option ℕ)) (t : ℕ) (l : Log) → ((k : ℕ) → k < 4 → get_or xs k None ≡ received t k l) → (m : ℕ) → m ≤ 4 → all_in xs m ≡ filled t m l
-all_filled xs t l h ℕ.zero q = refl
-all_filled xs t l h (ℕ.suc m) q =
-    ap (λ b. b && has (get_or xs m None)) (all_filled xs t l h m (omega arith)) ∙ ap (λ o. filled t m l && has o) (h m (omega arith))
-
-all_gathered : (xs : List (Option ℕ)) (t : ℕ) (l : Log) → ((k : ℕ) → k < 4 → get_or xs k None ≡ received t k l) → (m : ℕ) → m ≤ 4 → values xs m ≡ gathered t m l
-all_gathered xs t l h ℕ.zero q = refl
-all_gathered xs t l h (ℕ.suc m) q =
-    ap (λ ys. ys ++ (value (get_or xs m None) ∷ [])) (all_gathered xs t l h m (omega arith)) ∙ ap (λ o. gathered t m l ++ (value o ∷ [])) (h m (omega arith))
+same_words : (f g : ℕ → Option ℕ) → ((k : ℕ) → k < 4 → f k ≡ g k) → (m : ℕ) → m ≤ 4 → (all_held f m ≡ all_held g m) × (words_of f m ≡ words_of g m)
+same_words f g h ℕ.zero q = (refl, refl)
+same_words f g h (ℕ.suc m) q =
+    let e = same_words f g h m (omega arith) in
+    let d = h m (omega arith) in
+    (λ i. e.0 i && is_some (d i), λ i. e.1 i ++ (unwrap_or (d i) 0 ∷ []))
 
 module _ (r : Ticket) (t : ℕ) (l : Log) (taken : true ≡ not (free t l)) (h : Recorded r t l) where
   is_complete : all_in r.received (min r.size 4) ≡ complete t l
   is_complete =
       ap (all_in r.received) (let short = h.short in let e : min r.size 4 ≡ r.size = omega arith in e)
-      ∙ all_filled r.received t l h.received r.size h.short
+      ∙ (same_words (λ k. get_or r.received k None) (λ k. received t k l) h.received r.size h.short).0
       ∙ ap (λ m. filled t m l) h.size
       ∙ ap (λ b. b && filled t (size (packet t l)) l) taken
 
 holds : (r : Ticket) (t : ℕ) (l : Log) → Recorded r t l → values r.received (min r.size 4) ≡ gathered t (size (packet t l)) l
 holds r t l h =
     ap (values r.received) (let short = h.short in let e : min r.size 4 ≡ r.size = omega arith in e)
-    ∙ all_gathered r.received t l h.received r.size h.short ∙ ap (λ m. gathered t m l) h.size
+    ∙ (same_words (λ k. get_or r.received k None) (λ k. received t k l) h.received r.size h.short).1 ∙ ap (λ m. gathered t m l) h.size
 
 -- two tests, that both hold or not
 not_both : (a b : Bool) → (a && b) ≡ false → (not a || not b) ≡ true
@@ -94,15 +91,11 @@ module _ (F : Fabric) (i : Tables) (r n o : ℕ) (memory : List ℕ) where
 
   refuses : (k : ℕ) → ((s : State) → Shows F i s → collect_verdict F P s r n o memory ≡ refused k []) → Works F i i (collect r n o memory) (collecting (refused k []) memory)
   refuses k h =
-      record {
-        does = λ s led sh.
-            let e = h s sh in
-            record {
-              exact = ap (λ (v : Verdict ℕ). collecting v (decided v (over (gathered t (size (packet t s.log)) s.log) memory) memory)) (sym e);
-              same = refl;
-              shows = subst (λ (v : Verdict ℕ). Shows F i (decided v (then s) s)) (sym e) sh;
-            };
-      }
+      nothing_done (λ s sh.
+      let e = h s sh in (
+        ap (λ (v : Verdict ℕ). collecting v (decided v (over (gathered t (size (packet t s.log)) s.log) memory) memory)) (sym e),
+        ap (λ (v : Verdict ℕ). decided v (then s) s) e,
+      ))
 
   pub no_node : (F.plan.nodes ≤ r) ⊎ ((F.plan.nodes ≤ n) ⊎ (P.tickets ≤ o)) → Works F i i (collect r n o memory) (collecting (refused 4 []) memory)
   no_node (inl h) = refuses 4 (λ s sh. cond-true _ _ _ (or_left _ _ (or_left _ _ (le-leb F.plan.nodes r h))))

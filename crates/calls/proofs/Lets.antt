@@ -3,6 +3,7 @@ use Rattle.std.proofs.Common.{◌≤◌, ◌≡◌, ℕ, ◌+◌, ◌<◌, false
 use mathlib.Core.Path.{fun_ext}
 use Rattle.std.proofs.lemmas.List.{get_or-set_same, get_or-set_other}
 use Rattle.std.proofs.lemmas.Bool.{cases_eq, eq-eqb, ne_eqb, cond-true, cond-false, and_left, and_right, and_from}
+use Rattle.std.proofs.lemmas.Option.{same_Some}
 use Rattle.fabric.specs.declared.parts.Port.{Port}
 use Rattle.fabric.specs.declared.parts.Flit.{Flit}
 use Rattle.fabric.specs.Layouts.{Lawful}
@@ -17,18 +18,17 @@ use Rattle.network.specs.declared.event.Kind.TheVariants.{In}
 use Rattle.network.specs.Log.{Log, packet, size, word, aim, free, sent, waiting}
 use Rattle.network.specs.Log.Happening.{entered}
 use Rattle.network.specs.Cycle.{Fabric, State, entered_at, in_slot_order}
-use Rattle.network.specs.Runs.{put_all, told}
+use Rattle.network.specs.Runs.{put_all, told, event_of}
 use Rattle.network.specs.Computed.{gap, placed, next_of, with_flit, left, entering, ready}
 use Rattle.network.proofs.Invariant.{Inv, Opened, Each, Waits as Waiting}
-use Rattle.network.proofs.Places.{some_none, some_same}
+use Rattle.network.proofs.Places.{some_none, at_ordered}
 use Rattle.calls.specs.declared.ticket.Ticket.{Ticket}
 use Rattle.calls.specs.declared.tables.Tables.{Tables}
 use Rattle.calls.specs.Records.{lines, line_at, Keeps, LetsGo, LetsIn}
-use Rattle.calls.specs.Telling.{event_of}
 use Rattle.calls.specs.Follow.{Recorded, Entry, Records, Queued}
 use Rattle.calls.specs.Midway.{Reached, Between, Own, Let}
 use Rattle.calls.proofs.Showing.{like, change, entry_more, entered_in, get_or_some, invariant}
-use Rattle.calls.proofs.Takes.{at_ordered, set_ordered, between}
+use Rattle.calls.proofs.Takes.{set_ordered, between}
 
 module _ (F : Fabric) (i : Tables) (s : State) (l : Log) (n : ℕ) (law : Lawful F.plan) (led : Reached F i.settings s) (h : n < F.plan.nodes)
     (own : Own i.settings s n l) (b : Between F s l i) (places : List (Option Flit)) (pl : places ≡ in_slot_order (left F i.settings s n)) where
@@ -170,7 +170,7 @@ module _ (F : Fabric) (i : Tables) (s : State) (l : Log) (n : ℕ) (law : Lawful
             u ≡ put q (event_of y In f n) → Let F P s n l j q u after
         unfolding ready
         some f of q u after y pa yc uq =
-            let same : f ≡ flit = some_same o f flit of flit_is in
+            let same : f ≡ flit = same_Some f flit (sym of ∙ flit_is) in
             record {
               shows = subst (λ (x : Option (Port × Flit)). Between F s (entered_at n x ++ l) j) (sym entering_is) (between F s l then i j lets.keeps b records queued);
               gives =

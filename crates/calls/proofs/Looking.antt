@@ -1,27 +1,21 @@
 -- What a look answers.
-use Rattle.std.proofs.Common.{◌≡◌, ℕ, ◌+◌, ◌*◌, ◌<◌, ◌≤◌, ◌⊎◌, [], get_or, None, sym, refl, ap, ◌∙◌, inl, inr, arith}
+use Rattle.std.proofs.Common.{◌≡◌, ℕ, ◌+◌, ◌*◌, ◌<◌, ◌≤◌, ◌⊎◌, [], get_or, None, sym, refl, ap, ◌∙◌, inl, inr}
 use Rattle.std.proofs.lemmas.Bool.{le-leb, lt-leb, or_left, or_right, or_from, cond-true, cond-false}
-use Rattle.fabric.specs.Ports.{place_of}
+use Rattle.fabric.specs.Ports.{port_of}
 use Rattle.fabric.specs.Verdicts.{Verdict}
 use Rattle.fabric.specs.Verdicts.Verdict.{granted, refused}
+use Rattle.fabric.specs.Places.{place_of_port}
 use Rattle.network.specs.Cycle.{Fabric, State}
-use Rattle.network.specs.Runs.{look_verdict, port_of}
+use Rattle.network.specs.Runs.{look_verdict}
 use Rattle.network.specs.Runs.Call.{look}
 use Rattle.network.specs.Runs.Outcome.{looking}
 use Rattle.calls.specs.declared.tables.Tables.{Tables}
 use Rattle.calls.specs.Follow.{Shows}
-use Rattle.calls.proofs.Promising.{Works}
-
-pub place_of_port : (k : ℕ) → k < 4 → place_of (port_of k) ≡ k
-place_of_port ℕ.zero h = refl
-place_of_port (ℕ.suc ℕ.zero) h = refl
-place_of_port (ℕ.suc (ℕ.suc ℕ.zero)) h = refl
-place_of_port (ℕ.suc (ℕ.suc (ℕ.suc ℕ.zero))) h = refl
-place_of_port (ℕ.suc (ℕ.suc (ℕ.suc (ℕ.suc k)))) h = absurd (omega arith)
+use Rattle.calls.proofs.Promising.{Works, nothing_done}
 
 module _ (F : Fabric) (i : Tables) (n k : ℕ) where
   looked : (v : Verdict _) → ((s : State) → Shows F i s → v ≡ look_verdict F i.settings s n k) → Works F i i (look n k) (looking v)
-  looked v h = record { does = λ s led sh. record { exact = ap looking (h s sh); same = refl; shows = sh } }
+  looked v h = nothing_done (λ s sh. (ap looking (h s sh), refl))
 
   pub no_look : (F.plan.nodes ≤ n) ⊎ (4 ≤ k) → Works F i i (look n k) (looking (refused 4 []))
   no_look (inl h) = looked _ (λ s sh. sym (cond-true _ _ _ (or_left _ _ (le-leb F.plan.nodes n h))))

@@ -21,7 +21,7 @@ use Rattle.calls.specs.declared.tables.Tables.{Tables}
 use Rattle.calls.specs.declared.ticket.Ticket.{Ticket}
 use Rattle.calls.specs.Records.{lines, line_at, Accepts}
 use Rattle.calls.specs.Follow.{Shows, Recorded, Entry, Records}
-use Rattle.calls.proofs.Promising.{Works}
+use Rattle.calls.proofs.Promising.{Works, nothing_done}
 use Rattle.calls.proofs.Showing.{like, change, entry_of, invariant, logged}
 use Rattle.calls.proofs.Pigeons.{few}
 use Rattle.calls.proofs.Setting.{ticket_below}
@@ -35,10 +35,7 @@ own_range T n x p e =
 
 pub own_ticket : (p : Plan) → Lawful p → (P : Settings) → P.tickets ≤ 8 → (n o : ℕ) → n < p.nodes → o < P.tickets → n * P.tickets + o < 512
 own_ticket p law P h n o hn ho =
-    let a : n * P.tickets + o < p.nodes * P.tickets = digits_lt hn ho in
-    let b : p.nodes * P.tickets ≤ p.nodes * 8 = mul-le-mul_left p.nodes h in
-    let d = law.few_nodes in
-    omega arith
+    let few = law.few_nodes in omega (arith, digits_lt hn ho, mul-le-mul_left p.nodes h)
 
 -- a node with a free ticket has room for one more that waits
 pub room : (P : Settings) (l : Log) (n t : ℕ) (xs : List ℕ) → 0 < P.tickets → t / P.tickets ≡ n → free t l ≡ true → Each (Waiting P l n) xs → Distinct xs →
@@ -55,15 +52,9 @@ module _ (F : Fabric) (i : Tables) (n o d : ℕ) (ws : List ℕ) where
 
   refuses : (k : ℕ) → ((s : State) → Shows F i s → offer_verdict F P s n o d ws ≡ refused k []) → Works F i i (offer n o d ws) (offering (refused k []))
   refuses k h =
-      record {
-        does = λ s led sh.
-            let e = h s sh in
-            record {
-              exact = ap offering (sym e);
-              same = refl;
-              shows = subst (λ (v : Verdict (Unit {0})). Shows F i (decided v (with_log F P s (offered (ticket F P n o) (record { destination = d; words = ws }))) s)) (sym e) sh;
-            };
-      }
+      nothing_done (λ s sh.
+      let e = h s sh in
+      (ap offering (sym e), ap (λ (v : Verdict (Unit {0})). decided v (with_log F P s (offered (ticket F P n o) (record { destination = d; words = ws }))) s) e))
 
   pub no_node : (F.plan.nodes ≤ n) ⊎ (P.tickets ≤ o) → Works F i i (offer n o d ws) (offering (refused 4 []))
   no_node (inl h) = refuses 4 (λ s sh. cond-true _ _ _ (or_left _ _ (le-leb F.plan.nodes n h)))

@@ -1,59 +1,34 @@
 -- Different numbers in a row of k places are at most k.
-use Rattle.std.proofs.Common.{◌≡◌, ℕ, ◌+◌, ◌<◌, ◌≤◌, cond, eqb, ◌⊎◌, List, [], ◌∷◌, length, sym, refl, ap, ◌∙◌, subst, inl, inr, arith}
-use Rattle.std.proofs.lemmas.Bool.{cases_eq, eq-eqb, ne_eqb, cond-true, cond-false}
-use Rattle.network.proofs.Invariant.{Each, Distinct, each_map}
+use Rattle.std.proofs.Common.{◌≡◌, ℕ, ◌+◌, ◌-◌, ◌<◌, ◌≤◌, ◌||◌, eqb, false, true, List, [], ◌∷◌, length, map, subst, ⊎_elim, arith}
+use Rattle.std.proofs.lemmas.Bool.{cases_Bool, eqb-true, ne_eqb}
+use Rattle.std.specs.List.{AllByRecursion, IsDistinct, list_any}
+use Rattle.std.proofs.lemmas.List.{length-map}
+use Rattle.std.proofs.lemmas.Map.Steps.{length-le_from_distinct_below}
+use Rattle.network.proofs.Invariant.{Each, Distinct}
 
-abbrev less : ℕ → List ℕ → List ℕ
-less v [] = []
-less v (x ∷ xs) = cond (eqb x v) (less v xs) (x ∷ less v xs)
+module _ (k a : ℕ) where
+  abbrev Inside : ℕ → Type 0
+  Inside x = (a ≤ x) × (x < a + k)
 
--- the head goes, or stays
-head_goes : (v x : ℕ) (xs : List ℕ) → x ≡ v → less v (x ∷ xs) ≡ less v xs
-head_goes v x xs e = cond-true _ _ _ (eq-eqb x v e)
+  abbrev moved : List ℕ → List ℕ
+  moved = map (λ x. x - a)
 
-head_stays : (v x : ℕ) (xs : List ℕ) → (x ≡ v → ⊥) → less v (x ∷ xs) ≡ x ∷ less v xs
-head_stays v x xs e = cond-false _ _ _ (ne_eqb x v e)
+  below : (xs : List ℕ) → Each Inside xs → (q : ℕ) → list_any (eqb q) (moved xs) ≡ true → q < k
+  below [] e q h = cc
+  below (x ∷ xs) e q h =
+      ⊎_elim
+      (λ t. let y = e.0.0 in let z = e.0.1 in omega (arith, eqb-true q (x - a) t))
+      (λ f. below xs e.1 q (subst (λ b. (b || list_any (eqb q) (moved xs)) ≡ true) f h))
+      (cases_Bool (eqb q (x - a)))
 
-less_each : (R : ℕ → Type 0) (v : ℕ) (xs : List ℕ) → Each R xs → Each (λ x. R x × (x ≡ v → ⊥)) (less v xs)
-less_each R v [] e = tt
-less_each R v (x ∷ xs) e = go (cases_eq x v) (less_each R v xs e.1)
-  where
-    go : (x ≡ v) ⊎ (x ≡ v → ⊥) → Each (λ x. R x × (x ≡ v → ⊥)) (less v xs) → Each (λ x. R x × (x ≡ v → ⊥)) (less v (x ∷ xs))
-    go (inl q) ih = subst (Each (λ x. R x × (x ≡ v → ⊥))) (sym (head_goes v x xs q)) ih
-    go (inr q) ih = subst (Each (λ x. R x × (x ≡ v → ⊥))) (sym (head_stays v x xs q)) ((e.0, q), ih)
+  apart : (x : ℕ) (xs : List ℕ) → a ≤ x → Each Inside xs → Each (λ y. x ≡ y → ⊥) xs → AllByRecursion (λ y. eqb (x - a) y ≡ false) (moved xs)
+  apart x [] l e d = tt
+  apart x (y ∷ ys) l e d = (ne_eqb (x - a) (y - a) (λ q. let z = e.0.0 in d.0 (omega arith)), apart x ys l e.1 d.1)
 
-less_distinct : (v : ℕ) (xs : List ℕ) → Distinct xs → Distinct (less v xs)
-less_distinct v [] d = tt
-less_distinct v (x ∷ xs) d = go (cases_eq x v) (less_distinct v xs d.1)
-  where
-    go : (x ≡ v) ⊎ (x ≡ v → ⊥) → Distinct (less v xs) → Distinct (less v (x ∷ xs))
-    go (inl q) ih = subst Distinct (sym (head_goes v x xs q)) ih
-    go (inr q) ih = subst Distinct (sym (head_stays v x xs q)) (each_map _ _ (λ y h. h.0) (less v xs) (less_each (λ y. x ≡ y → ⊥) v xs d.0), ih)
+  distinct : (xs : List ℕ) → Each Inside xs → Distinct xs → IsDistinct eqb (moved xs)
+  unfolding IsDistinct
+  distinct [] e d = tt
+  distinct (x ∷ xs) e d = (apart x xs e.0.0 e.1 d.0, distinct xs e.1 d.1)
 
-less_none : (v : ℕ) (xs : List ℕ) → Each (λ y. v ≡ y → ⊥) xs → less v xs ≡ xs
-less_none v [] e = refl
-less_none v (x ∷ xs) e = head_stays v x xs (λ q. e.0 (sym q)) ∙ ap (λ ys. x ∷ ys) (less_none v xs e.1)
-
-less_length : (v : ℕ) (xs : List ℕ) → Distinct xs → length xs ≤ length (less v xs) + 1
-less_length v [] d = omega arith
-less_length v (x ∷ xs) d = go (cases_eq x v) (less_length v xs d.1)
-  where
-    go : (x ≡ v) ⊎ (x ≡ v → ⊥) → length xs ≤ length (less v xs) + 1 → length (x ∷ xs) ≤ length (less v (x ∷ xs)) + 1
-    go (inl q) ih =
-        let a : length (less v (x ∷ xs)) ≡ length xs =
-        ap length (head_goes v x xs q) ∙ ap length (less_none v xs (subst (λ (z : ℕ). Each (λ y. z ≡ y → ⊥) xs) q d.0)) in
-        omega arith
-    go (inr q) ih =
-        let a : length (less v (x ∷ xs)) ≡ length (x ∷ less v xs) = ap length (head_stays v x xs q) in
-        omega arith
-
-pub few : (k a : ℕ) (xs : List ℕ) → Each (λ x. (a ≤ x) × (x < a + k)) xs → Distinct xs → length xs ≤ k
-few ℕ.zero a [] e d = omega arith
-few ℕ.zero a (x ∷ xs) e d = let h = e.0 in absurd (omega arith)
-few (ℕ.suc k) a xs e d =
-    let ys = less (a + k) xs in
-    let f : Each (λ x. (a ≤ x) × (x < a + k)) ys =
-    each_map _ _ (λ x h. let p = h.0.0 in let q = h.0.1 in let n = h.1 in (p, let z : x < a + k = omega arith in z)) ys (less_each (λ x. (a ≤ x) × (x < a + ℕ.suc k)) (a + k) xs e) in
-    let ih = few k a ys f (less_distinct (a + k) xs d) in
-    let l = less_length (a + k) xs d in
-    omega arith
+  pub few : (xs : List ℕ) → Each Inside xs → Distinct xs → length xs ≤ k
+  few xs e d = subst (λ n. n ≤ k) (length-map xs (λ x. x - a)) (length-le_from_distinct_below (moved xs) k (distinct xs e d) (below xs e))

@@ -29,6 +29,12 @@ pub record Does (F : Fabric) (i j : Tables) (s : State) (k : Call) (o : Outcome)
 pub record Works (F : Fabric) (i j : Tables) (k : Call) (o : Outcome) : Type 0 where
   pub does : (s : State) → Reached F i.settings s → Shows F i s → Does F i j s k o
 
+-- a call that is answered without a change does nothing
+pub nothing_done : {F : Fabric} {i : Tables} {k : Call} {o : Outcome} →
+    ((s : State) → Shows F i s → (o ≡ outcome F i.settings s k) × (next F i.settings s k ≡ s)) → Works F i i k o
+nothing_done {F} {i} h =
+    record { does = λ s led sh. let e = h s sh in record { exact = e.0; same = refl; shows = subst (Shows F i) (sym e.1) sh } }
+
 -- what is granted is not refused
 pub not_refused : {A : Type 0} → false ≡ true → A
 not_refused e = absurd (both_ways false refl e)

@@ -1,37 +1,23 @@
 -- Lists in the records of tickets, and the tickets that wait at a node.
-use Rattle.std.proofs.Common.{◌≡◌, ℕ, ◌+◌, ◌<◌, ◌≤◌, List, [], ◌∷◌, ◌++◌, length, get_or, map, take, drop, set, Some, None, Option, unwrap_or, sym, refl, ap, ◌∙◌, subst, subst₂, add-one, arith}
-use Rattle.std.proofs.lemmas.List.{map-set, get_or-map, take_more, length-append}
+use Rattle.std.proofs.Common.{◌≡◌, ℕ, ◌+◌, ◌<◌, List, [], ◌∷◌, length, get_or, map, drop, set, Some, None, Option, sym, refl, ap, ◌∙◌, subst, subst₂, add-one}
+use Rattle.std.proofs.lemmas.List.{map-set, get_or-map, length-append}
+use Rattle.std.specs.Prelude.{slice_get}
 use Rattle.fabric.specs.declared.parts.Flit.{Flit}
 use Rattle.batch.specs.declared.batch.Batch.{Batch}
-use Rattle.batch.specs.Items.{items, first_of}
-use Rattle.network.specs.Log.{value}
+use Rattle.batch.specs.Items.{items}
 use Rattle.calls.specs.declared.ticket.Ticket.{Ticket}
 use Rattle.calls.specs.declared.tables.Tables.{Tables}
 use Rattle.calls.specs.Records.{values, lines, line_at, Keeps, Receives, Sends, TakesIn, LetsGo}
-
-pub value_or : (o : Option ℕ) → unwrap_or o 0 ≡ value o
-value_or None = refl
-value_or (Some x) = refl
-
--- the words received, in places enough
-pub values_upto : (xs : List (Option ℕ)) (ys : List ℕ) (n : ℕ) → n ≤ length xs → n ≤ length ys → ((i : ℕ) → i < n → get_or ys i 0 ≡ unwrap_or (get_or xs i None) 0) →
-    take n ys ≡ values xs n
-values_upto xs ys ℕ.zero h l e = refl
-values_upto xs ys (ℕ.suc n) h l e =
-    ap (λ k. take k ys) (sym (add-one n))
-    ∙ take_more ys n 0 (omega arith)
-    ∙ ap (λ zs. zs ++ get_or ys n 0 ∷ []) (values_upto xs ys n (omega arith) (omega arith) (λ i b. e i (omega arith)))
-    ∙ ap (λ x. values xs n ++ x ∷ []) (e n (omega arith) ∙ value_or (get_or xs n None))
 
 pub length_values : (xs : List (Option ℕ)) (n : ℕ) → length (values xs n) ≡ n
 length_values xs ℕ.zero = refl
 length_values xs (ℕ.suc n) = length-append (values xs n) _ ∙ ap (λ k. k + 1) (length_values xs n) ∙ add-one n
 
-pub head_some : (xs : List ℕ) (u : ℕ) → Some u ≡ first_of xs → (t : ℕ) (ts : List ℕ) → xs ≡ t ∷ ts → t ≡ u
+pub head_some : (xs : List ℕ) (u : ℕ) → Some u ≡ slice_get xs 0 → (t : ℕ) (ts : List ℕ) → xs ≡ t ∷ ts → t ≡ u
 head_some [] u e t ts q = cc
 head_some (x ∷ xs) u e t ts q = cc
 
-pub head_empty : (xs : List ℕ) (u : ℕ) → Some u ≡ first_of xs → xs ≡ [] → ⊥
+pub head_empty : (xs : List ℕ) (u : ℕ) → Some u ≡ slice_get xs 0 → xs ≡ [] → ⊥
 head_empty [] u e q = cc
 head_empty (x ∷ xs) u e q = cc
 

@@ -8,6 +8,7 @@ use Rattle.fabric.specs.Layouts.{Lawful}
 use Rattle.fabric.specs.Ports.{place_of}
 use Rattle.fabric.specs.Verdicts.{Verdict, granting}
 use Rattle.fabric.specs.Verdicts.Verdict.{granted, refused}
+use Rattle.fabric.specs.Places.{place_below}
 use Rattle.fabric.proofs.Following.{far_exists}
 use Rattle.line.specs.Queues.{Queue}
 use Rattle.batch.specs.Items.{items}
@@ -26,8 +27,7 @@ use Rattle.calls.specs.Records.{Advances}
 use Rattle.calls.specs.Steps.{far_place}
 use Rattle.calls.specs.Follow.{slot_of, Records, Queued, Shows}
 use Rattle.calls.specs.Midway.{Reached, Midway, NodeWorks, Round}
-use Rattle.calls.proofs.Promising.{Works}
-use Rattle.calls.proofs.Setting.{place_below}
+use Rattle.calls.proofs.Promising.{Works, nothing_done}
 use Rattle.calls.proofs.Putting.{put_length}
 use Rattle.calls.proofs.Working.{told_few}
 
@@ -88,15 +88,7 @@ module _ (F : Fabric) (i : Tables) where
 
     refuses : (k : ℕ) → ((s : State) → Shows F i s → cycle_verdict F P s q ≡ refused k []) → Works F i i (cycle q) (cycling (refused k []) q)
     refuses k h =
-        record {
-          does = λ s led sh.
-              let e = h s sh in
-              record {
-                exact = ap (answer s) (sym e);
-                same = refl;
-                shows = subst (λ (v : Verdict (Unit {0})). Shows F i (decided v (cycled F P s) s)) (sym e) sh;
-              };
-        }
+        nothing_done (λ s sh. let e = h s sh in (ap (answer s) (sym e), ap (λ (v : Verdict (Unit {0})). decided v (cycled F P s) s) e))
 
     pub no_cycle : 1073741823 ≤ i.cycles → Works F i i (cycle q) (cycling (refused 10 []) q)
     no_cycle h = refuses 10 (λ s sh. cond-true _ _ _ (le-leb 1073741823 s.cycles (subst (λ (c : ℕ). 1073741823 ≤ c) sh.cycles h)))

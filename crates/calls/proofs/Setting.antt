@@ -1,32 +1,25 @@
 -- A network that has just been set up.
-use Rattle.std.proofs.Common.{◌≡◌, ℕ, ◌+◌, ◌*◌, ◌<◌, ◌≤◌, ◌||◌, eqb, ltb, [], get_or, None, Option, sym, refl, ap, ◌∙◌, subst, mul-le-mul_right, mul-le-mul_left, zero-mul, arith}
+use Rattle.std.proofs.Common.{◌≡◌, ℕ, ◌+◌, ◌*◌, ◌≤◌, [], get_or, None, Option, sym, refl, ap, ◌∙◌, subst, mul-le-mul_left, zero-mul, arith}
 use Rattle.std.proofs.lemmas.List.{get_or-replicate}
-use Rattle.std.proofs.lemmas.Bool.{cond-false, or_from, or_parts, le-ltb, ltb-false}
-use Rattle.fabric.specs.declared.parts.Port.{Port}
-use Rattle.fabric.specs.declared.parts.Port.TheVariants.{N, E, S, W}
+use Rattle.std.proofs.lemmas.Bool.{cond-false, or_from, le-ltb}
 use Rattle.fabric.specs.Ports.{place_of}
 use Rattle.fabric.specs.Layouts.{Plan, Lawful}
 use Rattle.fabric.specs.Verdicts.Verdict.{granted}
+use Rattle.fabric.specs.Places.{place_below}
 use Rattle.switch.specs.Switches.{LawfulSwitch}
 use Rattle.bounds.specs.declared.settings.Settings.{Settings}
-use Rattle.bounds.specs.SetUp.{all_tickets, shortest_epoch, set_up_verdict}
+use Rattle.bounds.specs.SetUp.{all_tickets, set_up_verdict}
 use Rattle.clock.specs.Draws.{register}
 use Rattle.network.specs.Cycle.{Fabric}
 use Rattle.network.specs.Runs.{fresh}
 use Rattle.network.specs.Runs.Leads.{set_up}
-use Rattle.network.proofs.Running.{peel}
+use Rattle.network.proofs.Kept.{accepted}
 use Rattle.calls.specs.declared.tables.Tables.{Tables}
 use Rattle.calls.specs.declared.ticket.Ticket.{Ticket}
 use Rattle.calls.specs.Fits.{Fits}
 use Rattle.calls.specs.Records.{Starts}
 use Rattle.calls.specs.Follow.{Entry, Follows, Begins, slot_of}
 use Rattle.calls.proofs.Promising.{whole}
-
-pub place_below : (p : Port) → place_of p < 4
-place_below N = omega arith
-place_below E = omega arith
-place_below S = omega arith
-place_below W = omega arith
 
 pub ticket_below : (F : Fabric) → Lawful F.plan → (P : Settings) → P.tickets ≤ 8 → all_tickets F.plan P ≤ 512
 ticket_below F law P h =
@@ -72,22 +65,5 @@ first_settings p law =
 -- what set-up accepts fits
 pub fits : (p : Plan) (P : Settings) → set_up_verdict p P ≡ granted tt → Fits P
 fits p P e =
-    let v1 = peel 1 (ltb P.tickets 1 || ltb 8 P.tickets || ltb P.words 1 || ltb 4 P.words) _ tt e in
-    let v2 = peel 2 (ltb P.epoch (shortest_epoch p P) || ltb 4096 P.epoch) _ tt v1.1 in
-    let v3 = peel 3 (eqb P.seed 0 || ltb 65535 P.seed) _ tt v2.1 in
-    let words = or_parts (ltb P.tickets 1 || ltb 8 P.tickets || ltb P.words 1) (ltb 4 P.words) v1.0 in
-    let word = or_parts (ltb P.tickets 1 || ltb 8 P.tickets) (ltb P.words 1) words.0 in
-    let tickets = or_parts (ltb P.tickets 1) (ltb 8 P.tickets) word.0 in
-    let epoch = or_parts (ltb P.epoch (shortest_epoch p P)) (ltb 4096 P.epoch) v2.0 in
-    let seed = or_parts (eqb P.seed 0) (ltb 65535 P.seed) v3.0 in
-    let one : 1 ≤ P.words = ltb-false P.words 1 word.1 in
-    let long : P.words * (p.reach + 1) ≤ P.epoch = ltb-false P.epoch (shortest_epoch p P) epoch.0 in
-    let more : 1 * (p.reach + 1) ≤ P.words * (p.reach + 1) = mul-le-mul_right (p.reach + 1) one in
-    record {
-      some = ltb-false P.tickets 1 tickets.0;
-      few = ltb-false 8 P.tickets tickets.1;
-      short = ltb-false 4 P.words words.1;
-      lasting = omega arith;
-      ending = ltb-false 4096 P.epoch epoch.1;
-      narrow = let z : P.seed ≤ 65535 = ltb-false 65535 P.seed seed.1 in omega arith;
-    }
+    let a = accepted p P e in
+    record { some = a.some_tickets; few = a.few_tickets; short = a.short; lasting = a.some; ending = a.ending; narrow = a.narrow }

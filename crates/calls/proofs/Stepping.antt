@@ -9,20 +9,12 @@ use Rattle.fabric.specs.declared.parts.Port.TheVariants.{N, E, S, W}
 use Rattle.fabric.specs.declared.parts.Slot.{Slot}
 use Rattle.fabric.specs.declared.parts.Flit.{Flit}
 use Rattle.fabric.specs.Layouts.{Plan, Lawful}
-use Rattle.fabric.specs.Ports.{place_of}
+use Rattle.fabric.specs.Ports.{place_of, port_of}
+use Rattle.fabric.specs.Places.{place_of_port, place_below, port_of_place, slot_same}
 use Rattle.fabric.proofs.Following.{far_exists}
 use Rattle.switch.specs.Switches.{at}
-use Rattle.network.specs.Runs.{port_of}
 use Rattle.network.specs.Computed.{due, better, best}
 use Rattle.calls.specs.Steps.{none_at, far_place, best_upto, Spread, SpreadUpto, Unsent}
-use Rattle.calls.proofs.Looking.{place_of_port}
-use Rattle.calls.proofs.Setting.{place_below}
-
-pub port_of_place : (p : Port) → port_of (place_of p) ≡ p
-port_of_place N = refl
-port_of_place E = refl
-port_of_place S = refl
-port_of_place W = refl
 
 pub best_all : (g k : ℕ) (here : Port → Option Flit) (r : Option (Port × Flit)) → k ≡ 4 → r ≡ best_upto g here k → r ≡ best g here
 best_all g k here r e h = h ∙ ap (best_upto g here) e
@@ -37,20 +29,9 @@ best_more g n k xs h =
     ∙ ap (best_upto g (λ p. due n (at xs p))) (sym (add-one k))
 
 -- no two ports lead to the same place
-place_same : (p q : Port) → place_of p ≡ place_of q → p ≡ q
-place_same p q e = sym (port_of_place p) ∙ ap port_of e ∙ port_of_place q
-
-slot_same : (a b : Slot) → 4 * a.node + place_of a.port ≡ 4 * b.node + place_of b.port → a ≡ b
-slot_same a b e =
-    let x = place_below a.port in
-    let y = place_below b.port in
-    let n : a.node ≡ b.node = omega arith in
-    let p : a.port ≡ b.port = place_same _ _ (omega arith) in
-    λ i. record { node = n i; port = p i }
-
 pub far_same : (p : Plan) → Lawful p → (m n : ℕ) (q r : Port) → m < p.nodes → n < p.nodes → far_place p m q ≡ far_place p n r → (m ≡ n) × (q ≡ r)
 far_same p law m n q r hm hn e =
-    let f = slot_same (p.far m q) (p.far n r) e in
+    let f = slot_same (p.far m q) (p.far n r) (omega arith) in
     let b : ◌≡◌ {A = Slot} (record { node = m; port = q }) (record { node = n; port = r }) =
     sym (law.back m q hm) ∙ ap (λ (z : Slot). p.far z.node z.port) f ∙ law.back n r hn in
     (ap (λ (z : Slot). z.node) b, ap (λ (z : Slot). z.port) b)

@@ -6,7 +6,7 @@ use Rattle.fabric.specs.declared.parts.Port.{Port}
 use Rattle.fabric.specs.declared.parts.Port.TheVariants.{N, E, S, W}
 use Rattle.fabric.specs.declared.parts.Flit.{Flit}
 use Rattle.fabric.specs.Layouts.{Lawful}
-use Rattle.fabric.specs.Ports.{place_of}
+use Rattle.fabric.specs.Ports.{place_of, same}
 use Rattle.switch.specs.Switches.{at}
 use Rattle.line.specs.Queues.{Queue, put}
 use Rattle.batch.specs.Items.{items}
@@ -17,25 +17,19 @@ use Rattle.network.specs.declared.event.Kind.TheVariants.{Out}
 use Rattle.network.specs.Log.{Log, received}
 use Rattle.network.specs.Log.Happening.{off}
 use Rattle.network.specs.Cycle.{Fabric, State, golden_in, off_at, in_slot_order}
-use Rattle.network.specs.Runs.{put_all, told, count_off}
-use Rattle.network.specs.Computed.{due, best, same_port, without, taken, left}
+use Rattle.network.specs.Runs.{put_all, told, count_off, event_of}
+use Rattle.network.specs.Computed.{due, best, without, taken, left}
 use Rattle.network.proofs.Invariant.{Inv, Sits, Opened}
 use Rattle.network.proofs.Nodes.{taken_here}
+use Rattle.network.proofs.Places.{at_ordered}
 use Rattle.calls.specs.declared.ticket.Ticket.{Ticket}
 use Rattle.calls.specs.declared.tables.Tables.{Tables}
 use Rattle.calls.specs.Records.{lines, Keeps, Receives, TakesIn}
-use Rattle.calls.specs.Telling.{event_of}
 use Rattle.calls.specs.Follow.{slot_of, Recorded, Entry, Records, Queued}
-use Rattle.calls.specs.Midway.{Reached, Between, Took}
+use Rattle.calls.specs.Midway.{Reached, Between, Took, TakesOff}
 use Rattle.calls.proofs.Showing.{like, change, entry_more, entry_none, get_or_some, invariant}
 
-pub at_ordered : (here : Port → Option Flit) (p : Port) → at (in_slot_order here) p ≡ here p
-at_ordered here N = refl
-at_ordered here E = refl
-at_ordered here S = refl
-at_ordered here W = refl
-
-pub set_ordered : (here : Port → Option Flit) (p : Port) (o : Option Flit) → set (in_slot_order here) (place_of p) o ≡ in_slot_order (λ q. cond (same_port p q) o (here q))
+pub set_ordered : (here : Port → Option Flit) (p : Port) (o : Option Flit) → set (in_slot_order here) (place_of p) o ≡ in_slot_order (λ q. cond (same p q) o (here q))
 set_ordered here N o = refl
 set_ordered here E o = refl
 set_ordered here S o = refl
@@ -145,3 +139,17 @@ module _ (F : Fabric) (i : Tables) (s : State) (l : Log) (n g : ℕ) (law : Lawf
               ∙ ap (λ (o : Option (Port × Flit)). put_all q (told (off_at s.cycles n o))) (sym e);
           count = ap (λ (o : Option (Port × Flit)). count_off (off_at s.cycles n o)) (sym e);
         }
+
+-- where the code finds no flit to take off, nothing changes
+pub none_taken : (i : Tables) (n g : ℕ) (q : Queue Event) (places : List (Option Flit)) → places ≡ in_slot_order (slot_of i.slots n) →
+    best g (λ p. due n (at places p)) ≡ None → TakesOff i i n g q q places 0
+none_taken i n g q places here none =
+    let keeps : Keeps i i = record { settings = refl; cycles = refl; register = refl; slots = refl } in
+    record {
+      keeps = keeps;
+      few = omega arith;
+      took = λ F s l law led h gold b room.
+          subst (λ (xs : List (Option Flit)). Took F i.settings s n l i q q xs 0) (sym here)
+          (took_none F i s l n g law led h gold b i q keeps refl refl
+          (sym (same_best F i s l n g law led h gold b) ∙ ap (λ xs. best g (λ p. due n (at xs p))) (sym here) ∙ none));
+    }

@@ -1,7 +1,6 @@
 -- One node's work in a cycle.
-use Rattle.std.proofs.Common.{◌≡◌, ℕ, suc, ◌+◌, ◌*◌, ◌<◌, ◌≤◌, Bool, ◌⊎◌, List, [], ◌∷◌, ◌++◌, length, get_or, map, Some, None, Option, sym, refl, ap, ◌∙◌, subst, subst₂, inl, inr, append_assoc, add-zero, add-one, arith}
+use Rattle.std.proofs.Common.{◌≡◌, ℕ, suc, ◌+◌, ◌*◌, ◌<◌, ◌≤◌, Bool, ◌⊎◌, List, [], ◌∷◌, ◌++◌, length, get_or, map, Some, None, Option, sym, refl, ap, ◌∙◌, subst, subst₂, inl, inr, add-zero, add-one, arith}
 use mathlib.Core.Path.{fun_ext}
-use Rattle.std.proofs.lemmas.List.{append-nil, length-append}
 use Rattle.std.proofs.lemmas.Bool.{cases_eq}
 use Rattle.fabric.specs.declared.parts.Port.{Port}
 use Rattle.fabric.specs.declared.parts.Flit.{Flit}
@@ -20,35 +19,27 @@ use Rattle.network.specs.Runs.{put_all, told, count_off}
 use Rattle.network.specs.Computed.{taken, left, entering, ready, handing, leaving, done}
 use Rattle.network.proofs.Invariant.{Inv}
 use Rattle.network.proofs.Cycling.{off_packet, off_waiting, off_sent, keeps_packet, keeps_waiting, keeps_sent, grown, half_log, grown_none, grown_more}
+use Rattle.network.proofs.Places.{at_ordered}
+use Rattle.network.proofs.Solving.{news_done, told_both}
+use Rattle.network.proofs.Seen.{few_told}
+use Rattle.network.proofs.Choosing.{computed}
 use Rattle.calls.specs.declared.ticket.Ticket.{Ticket}
 use Rattle.calls.specs.declared.tables.Tables.{Tables}
 use Rattle.calls.specs.Records.{Draws}
-use Rattle.calls.specs.Steps.{wished, far_place}
+use Rattle.calls.specs.Steps.{far_place}
 use Rattle.calls.specs.Follow.{slot_of, Records, Queued}
 use Rattle.calls.specs.Midway.{Reached, Between, Took, TakesOff, Own, Let, Enters, Sent, NodeWorks}
 use Rattle.calls.proofs.Putting.{put_length, put_more}
 use Rattle.calls.proofs.Stepping.{far_same}
 use Rattle.calls.proofs.Showing.{invariant}
-use Rattle.calls.proofs.Takes.{at_ordered}
 
--- the events and the count of happenings
-told_append : (xs ys : Log) → told (xs ++ ys) ≡ told ys ++ told xs
-told_append [] ys = sym (append-nil (told ys))
-told_append (offered t p ∷ xs) ys = told_append xs ys
-told_append (entered f n ∷ xs) ys = ap (λ (e : List Event). e ++ told (entered f n ∷ [])) (told_append xs ys) ∙ append_assoc (told ys) (told xs) _
-told_append (off f n c ∷ xs) ys = ap (λ (e : List Event). e ++ told (off f n c ∷ [])) (told_append xs ys) ∙ append_assoc (told ys) (told xs) _
-told_append (collected t r ws ∷ xs) ys = told_append xs ys
-
+-- the count of happenings
 count_append : (xs ys : Log) → count_off (xs ++ ys) ≡ count_off ys + count_off xs
 count_append [] ys = sym (add-zero (count_off ys))
 count_append (offered t p ∷ xs) ys = count_append xs ys
 count_append (entered f n ∷ xs) ys = count_append xs ys
 count_append (off f n d ∷ xs) ys = let e = count_append xs ys in let z : count_off (xs ++ ys) + 1 ≡ count_off ys + (count_off xs + 1) = omega arith in z
 count_append (collected t r ws ∷ xs) ys = count_append xs ys
-
-same_wish : (F : Fabric) (n : ℕ) (o : Option Flit) → wished F.plan n o ≡ wish_of F n o
-same_wish F n None = refl
-same_wish F n (Some f) = refl
 
 -- the tables after a draw
 between_same : (F : Fabric) (s : State) (l : Log) (i j : Tables) {ds : List Bool} → Draws i j ds → Between F s l i → Between F s l j
@@ -65,10 +56,6 @@ module _ (F : Fabric) (P : Settings) (s : State) where
   off_few n None = omega arith
   off_few n (Some b) = omega arith
 
-  put_few : (n : ℕ) (o : Option (Port × Flit)) → length (told (entered_at n o)) ≤ 1
-  put_few n None = omega arith
-  put_few n (Some b) = omega arith
-
   put_none : (n : ℕ) (o : Option (Port × Flit)) → count_off (entered_at n o) ≡ 0
   put_none n None = refl
   put_none n (Some b) = refl
@@ -82,21 +69,11 @@ module _ (F : Fabric) (P : Settings) (s : State) where
       (told (done F P s n) ++ told (off_at s.cycles n (taken F P s n))) ++ told (entered_at n (entering F P s n))
   told_more n =
       ap told (done_more n)
-      ∙ told_append (entered_at n (entering F P s n)) _
-      ∙ ap (λ (e : List Event). e ++ told (entered_at n (entering F P s n))) (told_append (off_at s.cycles n (taken F P s n)) (done F P s n))
+      ∙ told_both (entered_at n (entering F P s n)) _
+      ∙ ap (λ (e : List Event). e ++ told (entered_at n (entering F P s n))) (told_both (off_at s.cycles n (taken F P s n)) (done F P s n))
 
   pub told_few : (n : ℕ) → length (told (done F P s n)) ≤ 2 * n
-  unfolding done
-  told_few ℕ.zero = omega arith
-  told_few (ℕ.suc n) =
-      let a = ap length (ap told (ap (done F P s) (sym (add-one n))) ∙ told_more n) in
-      let b = length-append (told (done F P s n) ++ told (off_at s.cycles n (taken F P s n))) (told (entered_at n (entering F P s n))) in
-      let c = length-append (told (done F P s n)) (told (off_at s.cycles n (taken F P s n))) in
-      let d = off_few n (taken F P s n) in
-      let e = put_few n (entering F P s n) in
-      let f = told_few n in
-      let z : length (told (done F P s (ℕ.suc n))) ≤ 2 * ℕ.suc n = omega arith in
-      z
+  told_few n = subst (λ (l : Log). length (told l) ≤ 2 * n) (news_done F P s (computed F P s) n (λ m h. refl)) (few_told s.cycles (computed F P s) n)
 
   count_more : (n : ℕ) → count_off (done F P s (n + 1)) ≡ count_off (done F P s n) + count_off (off_at s.cycles n (taken F P s n))
   count_more n =
@@ -132,15 +109,15 @@ module _ (F : Fabric) (P : Settings) (s : State) where
   -- what the code hands to the switch
   handed : (n g : ℕ) (r : ℕ) (places : List (Option Flit)) (wishes : List (Option Port)) (ds : List Bool) → g ≡ golden_in F P s.cycles →
       places ≡ in_slot_order (ready F P s n) →
-      wishes ≡ in_slot_order (λ p. wished F.plan n (at places p)) →
+      wishes ≡ in_slot_order (λ p. wish_of F.plan n (at places p)) →
       r ≡ register P.seed (s.cycles * F.plan.nodes + n + 1) → ds ≡ draw_bits r →
       ◌≡◌ {A = Handing} (record { places = places; wishes = wishes; golden = g; draws = ds }) (handing F P s n)
   unfolding handing
   handed n g r places wishes ds eg ep ew er ed =
-      let w : wishes ≡ in_slot_order (λ p. wish_of F n (ready F P s n p)) =
+      let w : wishes ≡ in_slot_order (λ p. wish_of F.plan n (ready F P s n p)) =
       ew
-      ∙ ap (λ (xs : List (Option Flit)). in_slot_order (λ p. wished F.plan n (at xs p))) ep
-      ∙ ap (λ (x : Port → Option Port). in_slot_order x) (fun_ext (λ p. ap (wished F.plan n) (at_ordered (ready F P s n) p) ∙ same_wish F n (ready F P s n p))) in
+      ∙ ap (λ (xs : List (Option Flit)). in_slot_order (λ p. wish_of F.plan n (at xs p))) ep
+      ∙ ap (λ (x : Port → Option Port). in_slot_order x) (fun_ext (λ p. ap (wish_of F.plan n) (at_ordered (ready F P s n) p))) in
       let d = ed ∙ ap draw_bits er in
       λ k. record { places = ep k; wishes = w k; golden = eg k; draws = d k }
 

@@ -1,7 +1,6 @@
 pub mod Fits
 pub mod Records
 pub mod Steps
-pub mod Telling
 pub mod Follow
 pub mod Midway
 pub mod Networks

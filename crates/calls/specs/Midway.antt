@@ -10,12 +10,12 @@ use Rattle.bounds.specs.SetUp.{all_tickets}
 use Rattle.clock.specs.Draws.{register}
 use Rattle.network.specs.declared.event.Event.{Event}
 use Rattle.network.specs.Log.{Log, packet, free, sent, waiting}
-use Rattle.network.specs.Cycle.{Fabric, State, golden_in, off_at, entered_at, in_slot_order}
+use Rattle.network.specs.Cycle.{Fabric, State, golden_in, off_at, entered_at, in_slot_order, wish_of}
 use Rattle.network.specs.Runs.{Call, Leads, put_all, told, count_off}
 use Rattle.network.specs.Computed.{taken, left, entering, ready, leaving, done}
 use Rattle.calls.specs.declared.tables.Tables.{Tables}
 use Rattle.calls.specs.Records.{lines, Keeps}
-use Rattle.calls.specs.Steps.{wished, far_place, Spread}
+use Rattle.calls.specs.Steps.{far_place, Spread}
 use Rattle.calls.specs.Follow.{slot_of, Records, Queued, Shows}
 
 -- a run leads to this state
@@ -63,7 +63,7 @@ pub record Enters (i j : Tables) (n : ℕ) (q r : Queue Event) (before after : L
 -- a node's places are sent on, as the switch turns them
 abbrev pub Sent : Fabric → ℕ → List (Option Flit) → ℕ → List Bool → List (Option Flit) → List (Option Flit) → Type 0
 Sent F n places g ds before after =
-    let wishes = in_slot_order (λ p. wished F.plan n (at places p)) in
+    let wishes = in_slot_order (λ p. wish_of F.plan n (at places p)) in
     Spread F.plan n (turned (F.turn (handed places wishes g ds)) places) before after
 
 -- after the first n nodes

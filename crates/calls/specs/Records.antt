@@ -1,10 +1,10 @@
 -- The record of a ticket, a node's waiting tickets, and how calls change them.
-use Rattle.std.specs.Prelude.{◌≡◌, ℕ, ◌+◌, ◌<◌, ◌≤◌, Bool, true, cond, ◌&&◌, List, [], ◌∷◌, ◌++◌, length, min, map, drop, replicate, Some, None, Option, ◌==◌, ◌≢◌, slice_index, slice_index_or, slice_set}
+use Rattle.std.specs.Prelude.{◌≡◌, ℕ, ◌+◌, ◌<◌, ◌≤◌, Bool, cond, ◌&&◌, List, [], ◌∷◌, length, min, map, drop, replicate, Some, None, Option, ◌==◌, ◌≢◌, slice_index, slice_index_or, slice_set}
 use Rattle.fabric.specs.declared.parts.Flit.{Flit}
 use Rattle.batch.specs.Items.{items, joined}
 use Rattle.bounds.specs.declared.settings.Settings.{Settings}
 use Rattle.clock.specs.Draws.{shifted, draw_bits}
-use Rattle.network.specs.Log.{has, value}
+use Rattle.network.specs.Log.{all_held, words_of}
 use Rattle.calls.specs.declared.ticket.Ticket.{Ticket}
 use Rattle.calls.specs.declared.tables.Tables.{Tables}
 
@@ -17,13 +17,11 @@ line_at i n = slice_index_or (lines i) n []
 
 -- the first m places all hold a word
 abbrev pub all_in : List (Option ℕ) → ℕ → Bool
-all_in xs ℕ.zero = true
-all_in xs (ℕ.suc m) = all_in xs m && has (slice_index_or xs m None)
+all_in xs = all_held (λ k. slice_index_or xs k None)
 
 -- the words of the first m places
 abbrev pub values : List (Option ℕ) → ℕ → List ℕ
-values xs ℕ.zero = []
-values xs (ℕ.suc m) = values xs m ++ (value (slice_index_or xs m None) ∷ [])
+values xs = words_of (λ k. slice_index_or xs k None)
 
 -- the packet under a ticket, if it is complete and goes to this node
 abbrev pub arrived : Option Ticket → ℕ → Option Ticket

@@ -1,22 +1,17 @@
 -- What the steps of a node's work do to four places, and to the slots.
-use Rattle.std.specs.Prelude.{◌≡◌, ℕ, ◌+◌, ◌*◌, ◌<◌, ◌≤◌, List, Bool, ◌&&◌, Some, None, Option, ◌≢◌, slice_index_or}
+use Rattle.std.specs.Prelude.{◌≡◌, ℕ, ◌+◌, ◌*◌, ◌<◌, ◌≤◌, List, Bool, ◌&&◌, None, Option, ◌≢◌, slice_index_or}
 use Rattle.fabric.specs.declared.parts.Port.{Port}
 use Rattle.std.specs.Option.{is_none}
 use Rattle.fabric.specs.declared.parts.Port.TheVariants.{N, E, S, W}
 use Rattle.fabric.specs.declared.parts.Flit.{Flit}
 use Rattle.fabric.specs.Layouts.{Plan}
-use Rattle.fabric.specs.Ports.{place_of}
+use Rattle.fabric.specs.Ports.{place_of, port_of}
 use Rattle.switch.specs.Switches.{at}
-use Rattle.network.specs.Runs.{port_of}
 use Rattle.network.specs.Computed.{better}
 
 -- no flit stands at any of the four
 abbrev pub none_at : (Port → Option Flit) → Bool
 none_at here = (is_none (here N) && is_none (here E)) && (is_none (here S) && is_none (here W))
-
-abbrev pub wished : Plan → ℕ → Option Flit → Option Port
-wished p n None = None
-wished p n (Some f) = p.wish n f.destination
 
 -- the place in the table of slots that a node's port leads to
 abbrev pub far_place : Plan → ℕ → Port → ℕ

@@ -1,11 +1,10 @@
 // The steps of one node's work in a cycle, on its four places.
 ghost use Rattle.std.specs.Prelude.{◌≡◌, ◌+◌, ◌*◌, ◌<◌, None, slice_set};
-ghost use Rattle.fabric.specs.Ports.{place_of};
+ghost use Rattle.fabric.specs.Ports.{place_of, port_of};
 ghost use Rattle.switch.specs.Switches.{at};
-ghost use Rattle.network.specs.Cycle.{in_slot_order};
-ghost use Rattle.network.specs.Runs.{port_of};
+ghost use Rattle.network.specs.Cycle.{in_slot_order, wish_of};
 ghost use Rattle.network.specs.Computed.{due as is_due, better as is_better, best as is_best, ahead as is_ahead, gap as is_gap};
-ghost use Rattle.calls.specs.Steps.{none_at, wished, far_place, Spread, Unsent};
+ghost use Rattle.calls.specs.Steps.{none_at, far_place, Spread, Unsent};
 
 use super::tables::{PORTS, SLOTS};
 use fabric::layout::Layout;
@@ -83,7 +82,7 @@ pub(crate) fn with(
 }
 
 fn wish<L: Layout>(layout: &L, node: usize, place: Option<Flit>) -> Option<Port>
-    ensures { result ≡ wished (L.plan layout.now) node place }
+    ensures { result ≡ wish_of (L.plan layout.now) node place }
 {
     place.and_then(|flit| layout.wish(node, usize::from(flit.destination)))
 }
@@ -93,7 +92,7 @@ pub(crate) fn wishes<L: Layout>(
     node: usize,
     places: [Option<Flit>; 4],
 ) -> [Option<Port>; 4]
-    ensures { result ≡ in_slot_order (λ p. wished (L.plan layout.now) node (at places p)) }
+    ensures { result ≡ in_slot_order (λ p. wish_of (L.plan layout.now) node (at places p)) }
 {
     places.map(|place| wish(layout, node, place))
 }

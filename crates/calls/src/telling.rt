@@ -2,7 +2,7 @@
 ghost use Rattle.std.specs.Prelude.{◌≡◌, ◌<◌, length};
 ghost use Rattle.line.specs.Queues.{put};
 ghost use Rattle.line.specs.Lines.{queue_of, SameLender};
-ghost use Rattle.calls.specs.Telling.{event_of};
+ghost use Rattle.network.specs.Runs.{event_of};
 
 use fabric::parts::Flit;
 use line::Line;

@@ -4,11 +4,12 @@ use Rattle.std.proofs.Common.{sym, ◌∙◌, ap, ap₂, subst, inl, inr, arith,
 use Rattle.std.proofs.lemmas.Nat.{mul-add-lt, div-mul-add, mod-mul-add, div_below, mod_below, div-add-mod'}
 use Rattle.std.proofs.lemmas.Bool.{eqb-false, ltb-true, ltb-false, lt-ltb, le-ltb, cond-true, cond-false, cond_both, and_from, and_left, and_right}
 use Rattle.std.proofs.lemmas.Bool.Decides.{nat_tests}
+use Rattle.std.specs.Int.{abs_diff}
 use Rattle.fabric.specs.declared.parts.Port.{Port}
 use Rattle.fabric.specs.declared.parts.Port.TheVariants.{N, E, S, W}
 use Rattle.fabric.specs.declared.parts.Slot.{Slot}
 use Rattle.fabric.specs.Layouts.{Lawful, Leads, both}
-use Rattle.fabric.specs.Meshes.{Fair, spot, across, gap, towards, mesh_plan, mesh_verdict}
+use Rattle.fabric.specs.Meshes.{Fair, spot, across, towards, mesh_plan, mesh_verdict}
 use Rattle.fabric.specs.Verdicts.Verdict.{granted, refused}
 
 -- a mesh has at least as many nodes as its first row and first column together
@@ -48,15 +49,22 @@ towards-S x y u v e = grind (arith, nat_tests)
 towards-N : (x y u v : ℕ) → towards x y u v ≡ Some N → (x ≡ u) × (v < y)
 towards-N x y u v e = grind (arith, nat_tests)
 
-towards_none : (x y u v : ℕ) → towards x y u v ≡ None → gap x u + gap y v ≡ 0
+towards_none : (x y u v : ℕ) → towards x y u v ≡ None → abs_diff x u + abs_diff y v ≡ 0
 towards_none x y u v e = grind (arith, nat_tests)
 
-towards_here : (x y u v : ℕ) → gap x u + gap y v ≡ 0 → towards x y u v ≡ None
+towards_here : (x y u v : ℕ) → abs_diff x u + abs_diff y v ≡ 0 → towards x y u v ≡ None
 towards_here x y u v e = grind (arith, nat_tests)
 
 some_or_none : (o : Option Port) → (o ≡ None) ⊎ ((w : Port) × (o ≡ Some w))
 some_or_none None = inl refl
 some_or_none (Some w) = inr (w, refl)
+
+pub both_in : (k m n : ℕ) → m < k → n < k → both k m n ≡ true
+both_in k m n p q = and_from _ _ (lt-ltb _ _ p) (lt-ltb _ _ q)
+
+pub both_out : (k m n : ℕ) → (k ≤ m) ⊎ (k ≤ n) → both k m n ≡ false
+both_out k m n (inl p) = and_left _ _ (le-ltb _ _ p)
+both_out k m n (inr p) = and_right _ _ (le-ltb _ _ p)
 
 module _ (w h : ℕ) (ok : Fair w h) where
   pub column_in : (n : ℕ) → n % w < w
@@ -110,33 +118,26 @@ module _ (w h : ℕ) (ok : Fair w h) where
       ∙ home (n % w) (n / w) (column_in n) (row_in n l) p
       ∙ ap (λ k. let t : Slot = record { node = k; port = p } in t) (div-add-mod' n w)
 
-  both_in : (m n : ℕ) → m < w * h → n < w * h → both (w * h) m n ≡ true
-  both_in m n p q = and_from _ _ (lt-ltb _ _ p) (lt-ltb _ _ q)
-
-  both_out : (m n : ℕ) → (w * h ≤ m) ⊎ (w * h ≤ n) → both (w * h) m n ≡ false
-  both_out m n (inl p) = and_left _ _ (le-ltb _ _ p)
-  both_out m n (inr p) = and_right _ _ (le-ltb _ _ p)
-
-  distance_in : (m n : ℕ) → m < w * h → n < w * h → (mesh_plan w h).distance m n ≡ gap (m % w) (n % w) + gap (m / w) (n / w)
-  distance_in m n p q = cond-true (both (w * h) m n) _ _ (both_in m n p q)
+  distance_in : (m n : ℕ) → m < w * h → n < w * h → (mesh_plan w h).distance m n ≡ abs_diff (m % w) (n % w) + abs_diff (m / w) (n / w)
+  distance_in m n p q = cond-true (both (w * h) m n) _ _ (both_in (w * h) m n p q)
 
   wish_in : (m n : ℕ) → m < w * h → n < w * h → (mesh_plan w h).wish m n ≡ towards (m % w) (m / w) (n % w) (n / w)
-  wish_in m n p q = cond-true (both (w * h) m n) _ _ (both_in m n p q)
+  wish_in m n p q = cond-true (both (w * h) m n) _ _ (both_in (w * h) m n p q)
 
   distance_at : (x y n : ℕ) → x < w → y < h → n < w * h →
-      (mesh_plan w h).distance (y * w + x) n ≡ gap x (n % w) + gap y (n / w)
+      (mesh_plan w h).distance (y * w + x) n ≡ abs_diff x (n % w) + abs_diff y (n / w)
   distance_at x y n p q l =
-      distance_in (y * w + x) n (spot_in x y p q) l ∙ ap₂ (λ a b. gap a (n % w) + gap b (n / w)) (mod-mul-add y w x p) (div-mul-add y w x p)
+      distance_in (y * w + x) n (spot_in x y p q) l ∙ ap₂ (λ a b. abs_diff a (n % w) + abs_diff b (n / w)) (mod-mul-add y w x p) (div-mul-add y w x p)
 
   -- a slot at a node that stands one nearer to node n than d
   abbrev Closer : ℕ → ℕ → Slot → Type 0
   Closer n d s = (s.node < w * h) × ((mesh_plan w h).distance s.node n + 1 ≡ d)
 
-  closer : (n d x y : ℕ) (o : Port) (s : Slot) → n < w * h → x < w → y < h → s ≡ spot w x y o → gap x (n % w) + gap y (n / w) + 1 ≡ d → Closer n d s
+  closer : (n d x y : ℕ) (o : Port) (s : Slot) → n < w * h → x < w → y < h → s ≡ spot w x y o → abs_diff x (n % w) + abs_diff y (n / w) + 1 ≡ d → Closer n d s
   closer n d x y o s l p q e g = subst (Closer n d) (sym e) (spot_in x y p q, ap (λ k. k + 1) (distance_at x y n p q l) ∙ g)
 
   step : (x y n : ℕ) (o : Port) → x < w → y < h → n < w * h → towards x y (n % w) (n / w) ≡ Some o →
-      Closer n (gap x (n % w) + gap y (n / w)) (across w h x y o)
+      Closer n (abs_diff x (n % w) + abs_diff y (n / w)) (across w h x y o)
   step x y n N p q l e =
       let t = towards-N x y (n % w) (n / w) e in
       closer n _ x (y - 1) S _ l p (omega arith) (cond-true (nat_lt 0 y) _ _ (lt-ltb _ _ (omega arith))) (omega arith)
@@ -183,7 +184,7 @@ module _ (w h : ℕ) (ok : Fair w h) where
     near = omega (arith, sides w h ok.0 ok.1);
     absent = λ m n p q e. wish_in m n p q ∙ towards_here _ _ _ _ (sym (distance_in m n p q) ∙ e);
     nearer = nearer;
-    missing_distance = λ m n l. cond-false (both (w * h) m n) _ _ (both_out m n l);
-    missing_wish = λ m n l. cond-false (both (w * h) m n) _ _ (both_out m n l);
+    missing_distance = λ m n l. cond-false (both (w * h) m n) _ _ (both_out (w * h) m n l);
+    missing_wish = λ m n l. cond-false (both (w * h) m n) _ _ (both_out (w * h) m n l);
     missing_far = λ n p l. cond-false (nat_lt n (w * h)) _ _ (le-ltb _ _ l);
   }

@@ -1,17 +1,16 @@
 -- What the verdicts on a sheet's lines make of a report.
-use Rattle.std.proofs.Common.{◌≡◌, ℕ, zero, suc, ◌+◌, ◌*◌, ◌<◌, ◌≤◌, false, true, ◌||◌, eqb, List, [], ◌∷◌, length, get_or, Err, Result, sym, refl, ap, subst, inl, ⊎_elim, arith}
+use Rattle.std.proofs.Common.{◌≡◌, ℕ, zero, suc, ◌<◌, ◌≤◌, false, true, ◌||◌, eqb, List, [], ◌∷◌, length, get_or, Err, Result, sym, refl, ap, subst, inl, ⊎_elim, arith}
 use Rattle.std.specs.List.{AllByRecursion, IsDistinct, list_any}
 use Rattle.std.proofs.lemmas.Bool.{cases_Bool, eqb-true, ne_eqb}
 use Rattle.std.proofs.lemmas.Map.Steps.{length-le_from_distinct_below}
 use Rattle.fabric.specs.declared.parts.Cable.{Cable}
-use Rattle.fabric.specs.declared.parts.Port.{Port}
-use Rattle.fabric.specs.declared.parts.Port.TheVariants.{N, E, S, W}
-use Rattle.fabric.specs.declared.parts.Slot.{Slot}
 use Rattle.fabric.specs.Layouts.{Plan}
 use Rattle.fabric.specs.Verdicts.{Verdict}
 use Rattle.fabric.specs.Verdicts.Verdict.{granted, refused}
-use Rattle.cabled.specs.Cables.{Cabling, lone, rank, cable_at, Fair, Good, AllGood}
+use Rattle.fabric.specs.Places.{place_below, slot_same}
+use Rattle.cabled.specs.Cables.{Cabling, lone, cable_at, Fair, Good, AllGood}
 use Rattle.cabled.specs.Cables.Cabling.{unfair, bad, unreached, cabled}
+use Rattle.cabled.specs.Tables.{index}
 use Rattle.text.specs.declared.fault.Fault.{Fault}
 use Rattle.text.specs.declared.parts.Shape.{Shape}
 use Rattle.text.specs.Faults.{told}
@@ -33,46 +32,10 @@ as_plans plan {k} {cs} {x} e = go
     go (unreached f g n l h) = same (unreached f g n l h)
     go (cabled f g h m) = cabled f g h m
 
--- a slot's number
-abbrev pub slot_number : Slot → ℕ
-slot_number s = s.node * 4 + rank s.port
-
-rank_below : (p : Port) → rank p < 4
-rank_below N = omega arith
-rank_below E = omega arith
-rank_below S = omega arith
-rank_below W = omega arith
-
-pub same_port : (p q : Port) → rank p ≡ rank q → p ≡ q
-same_port N N e = refl
-same_port N E e = absurd (omega arith)
-same_port N S e = absurd (omega arith)
-same_port N W e = absurd (omega arith)
-same_port E N e = absurd (omega arith)
-same_port E E e = refl
-same_port E S e = absurd (omega arith)
-same_port E W e = absurd (omega arith)
-same_port S N e = absurd (omega arith)
-same_port S E e = absurd (omega arith)
-same_port S S e = refl
-same_port S W e = absurd (omega arith)
-same_port W N e = absurd (omega arith)
-same_port W E e = absurd (omega arith)
-same_port W S e = absurd (omega arith)
-same_port W W e = refl
-
-pub same_slot : (s t : Slot) → slot_number s ≡ slot_number t → s ≡ t
-same_slot s t e =
-    let a = rank_below s.port in
-    let b = rank_below t.port in
-    let n : s.node ≡ t.node = omega arith in
-    let p : s.port ≡ t.port = same_port s.port t.port (omega arith) in
-    λ i. record { node = n i; port = p i }
-
 -- the numbers of the slots that the first n cables begin at
 abbrev heads : List Cable → ℕ → List ℕ
 heads cs zero = []
-heads cs (suc n) = slot_number (cable_at cs n).one ∷ heads cs n
+heads cs (suc n) = index (cable_at cs n).one ∷ heads cs n
 
 length_heads : (cs : List Cable) (n : ℕ) → length (heads cs n) ≡ n
 length_heads cs zero = refl
@@ -93,16 +56,16 @@ module _ (k : ℕ) (cs : List Cable) (f : Fair k) where
   heads_below (suc n) g =
       let c = cable_at cs n in
       let there : c.one.node < k = (g n (omega arith)).there c.one c.other (inl (refl, refl)) in
-      let r = rank_below c.one.port in
+      let r = place_below c.one.port in
       let most = f.1 in
       (omega arith, heads_below n (λ i l. g i (omega arith)))
 
-  apart : (n : ℕ) → Good k cs n → (m : ℕ) → m ≤ n → AllByRecursion (λ y. eqb (slot_number (cable_at cs n).one) y ≡ false) (heads cs m)
+  apart : (n : ℕ) → Good k cs n → (m : ℕ) → m ≤ n → AllByRecursion (λ y. eqb (index (cable_at cs n).one) y ≡ false) (heads cs m)
   apart n g zero l = tt
   apart n g (suc m) l =
       let c = cable_at cs n in
       let d = cable_at cs m in (
-        ne_eqb (slot_number c.one) (slot_number d.one) (λ e. g.fresh c.one c.other d.other (inl (refl, refl)) (m, omega arith, inl (sym (same_slot c.one d.one e), refl))),
+        ne_eqb (index c.one) (index d.one) (λ e. g.fresh c.one c.other d.other (inl (refl, refl)) (m, omega arith, inl (sym (slot_same c.one d.one e), refl))),
         apart n g m (omega arith),
       )
 

@@ -11,7 +11,7 @@ use Rattle.fabric.specs.Grid.{mesh_lawful}
 use Rattle.fabric.specs.Verdicts.{Verdict, granting}
 use Rattle.fabric.specs.Verdicts.Verdict.{granted, refused}
 use Rattle.bounds.specs.SetUp.{set_up_verdict}
-use Rattle.cabled.specs.Cables.{Cabling, Joined, Means, Wished, Good, AllGood, lone, rank}
+use Rattle.cabled.specs.Cables.{Cabling, Joined, Means, Wished, Good, AllGood, lone}
 use Rattle.cabled.specs.Cables.Cabling.{unfair, bad, unreached, cabled}
 use Rattle.text.specs.declared.fault.Layer.TheVariants.{Layout, Network}
 use Rattle.text.specs.declared.parts.Run.{Run}
@@ -20,7 +20,9 @@ use Rattle.text.specs.declared.parts.Shape.TheVariants.{Mesh, Cabled}
 use Rattle.laying.specs.Reports.{Report, by_layer, then}
 use Rattle.laying.specs.Reports.Report.{answers, faults}
 use Rattle.laying.specs.Layings.{Laid, Judged, settings_of, settled, layout_line}
-use Rattle.laying.proofs.Laying.{slot_number, same_slot, same_port}
+use Rattle.fabric.specs.Ports.{looked_at}
+use Rattle.fabric.specs.Places.{slot_same, looked_at_same}
+use Rattle.cabled.specs.Tables.{index}
 
 -- two plans of one list of cables: distances are fewest cables, and the rest follows
 module _ {k : ℕ} {cs : List Cable} {p q : Plan} (a : Means k cs p) (b : Means k cs q) (law : Lawful p) (law' : Lawful q) where
@@ -28,12 +30,12 @@ module _ {k : ℕ} {cs : List Cable} {p q : Plan} (a : Means k cs p) (b : Means 
   same_far n s =
       let t : Slot = record { node = n; port = s } in
       ⊎_elim
-      (λ e. same_slot (p.far n s) (q.far n s) e)
+      (λ e. slot_same (p.far n s) (q.far n s) e)
       (λ e.
-      let other : p.far n s ≡ q.far n s → ⊥ = λ h. e (ap slot_number h) in
+      let other : p.far n s ≡ q.far n s → ⊥ = λ h. e (ap index h) in
       let none : (u : Slot) → Joined cs (length cs) t u → ⊥ = λ u j. other (a.plugged t u j ∙ sym (b.plugged t u j)) in
       absurd (other (a.bare t none ∙ sym (b.bare t none))))
-      (cases_eq (slot_number (p.far n s)) (slot_number (q.far n s)))
+      (cases_eq (index (p.far n s)) (index (q.far n s)))
 
   -- of a node that is missing, all say the same
   same_of : {A : Type 0} (f : Plan → ℕ → ℕ → A) (x : A) →
@@ -66,11 +68,11 @@ module _ {k : ℕ} {cs : List Cable} {p q : Plan} (a : Means k cs p) (b : Means 
   wished : (m n : ℕ) (o o' : Option Port) → Wished p m n o → Wished q m n o' → o ≡ o'
   wished m n (Some w) (Some v) h h' =
       ap Some
-      (same_port w v
+      (looked_at_same w v
       (omega (
         arith,
-        ⊎_elim (λ l. absurd (h'.1 w l (same_leads a b law law' m n w h.0))) (λ l. l) (cases_lt (rank w) (rank v)),
-        ⊎_elim (λ l. absurd (h.1 v l (same_leads b a law' law m n v h'.0))) (λ l. l) (cases_lt (rank v) (rank w)),
+        ⊎_elim (λ l. absurd (h'.1 w l (same_leads a b law law' m n w h.0))) (λ l. l) (cases_lt (looked_at w) (looked_at v)),
+        ⊎_elim (λ l. absurd (h.1 v l (same_leads b a law' law m n v h'.0))) (λ l. l) (cases_lt (looked_at v) (looked_at w)),
       )))
   wished m n (Some w) None h h' = absurd (omega (arith, h.0.1, same_distance a b law law' m n, h'))
   wished m n None (Some v) h h' = absurd (omega (arith, h, h'.0.1, same_distance a b law law' m n))

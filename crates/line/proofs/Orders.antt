@@ -2,8 +2,10 @@
 use Rattle.std.proofs.Common.{◌≡◌, ◌+◌, ◌<◌, Bool, true, false, cond, eqb, List, [], ◌∷◌, ◌++◌, length, sym, refl, ap, ◌∙◌, append_assoc, append-nil, zero-le, mod-lt, arith}
 use Rattle.std.proofs.lemmas.List.{length-set}
 use Rattle.std.proofs.lemmas.Bool.{cond-true, cond-false, cond_both, eq-eqb, ne_eqb, eqb-true, eqb-false}
-use Rattle.line.specs.Queues.{Queue, Sound, contents, oldest, first_of, free_places, full, place, put, take}
-use Rattle.line.specs.Runs.{Use, used, goes_in, comes_out, listed, after, taken, FirstOut, Continues}
+use Rattle.std.specs.Option.{option_to_list}
+use Rattle.std.specs.Prelude.{slice_get}
+use Rattle.line.specs.Queues.{Queue, Sound, contents, oldest, free_places, full, place, put, take}
+use Rattle.line.specs.Runs.{Use, used, goes_in, comes_out, after, taken, FirstOut, Continues}
 use Rattle.line.specs.Runs.Use.{puts, takes}
 use Rattle.line.proofs.Contents.{nothing_held, put_contents, take_contents}
 
@@ -48,12 +50,12 @@ module _ {A : Type 0} where
       go false e = sym (put_contents q s x (omega (arith, eqb-false (free_places q) 0 e)))
   in_order q s takes = append-nil (contents q) ∙ go (eqb q.held 0) refl
     where
-      go : (b : Bool) → eqb q.held 0 ≡ b → contents q ≡ listed (oldest q) ++ contents (cond b q (take q))
-      go true e = let n = nothing_held q (eqb-true q.held 0 e) in n ∙ sym (ap (λ xs. listed (first_of xs) ++ xs) n)
+      go : (b : Bool) → eqb q.held 0 ≡ b → contents q ≡ option_to_list (oldest q) ++ contents (cond b q (take q))
+      go true e = let n = nothing_held q (eqb-true q.held 0 e) in n ∙ sym (ap (λ xs. option_to_list (slice_get xs 0) ++ xs) n)
       go false e =
           let some : 0 < q.held = omega (arith, eqb-false q.held 0 e) in
           let x = take_contents q s (any q.memory (omega arith)) some in
-          x ∙ sym (ap (λ xs. listed (first_of xs) ++ contents (take q)) x)
+          x ∙ sym (ap (λ xs. option_to_list (slice_get xs 0) ++ contents (take q)) x)
 
   pub sound_after : (ms : List A) (run : List (Use A)) → Sound (after ms run)
   sound_after ms [] = (zero-le, λ h. h)

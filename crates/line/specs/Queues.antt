@@ -1,5 +1,5 @@
 -- A queue over a memory, of which the places are used in turn and round again.
-use Rattle.std.specs.Prelude.{◌≡◌, ℕ, ◌+◌, ◌-◌, ◌%◌, ◌<◌, ◌≤◌, Bool, List, [], ◌∷◌, ◌++◌, length, take as front, drop, Some, None, Option, ◌==◌, slice_index_or, slice_set}
+use Rattle.std.specs.Prelude.{◌≡◌, ℕ, ◌+◌, ◌-◌, ◌%◌, ◌<◌, ◌≤◌, Bool, List, [], ◌∷◌, ◌++◌, length, take as front, drop, Option, ◌==◌, slice_get, slice_index_or, slice_set}
 use Rattle.fabric.specs.Verdicts.{Verdict, judged}
 
 -- as many values as are held lie in turn from the place `first` on
@@ -7,11 +7,6 @@ pub record Queue (A : Type 0) : Type 0 where
   pub memory : List A
   pub first : ℕ
   pub held : ℕ
-
--- the first of a list, if there is one
-abbrev pub first_of : {A : Type 0} → List A → Option A
-first_of [] = None
-first_of (x ∷ xs) = Some x
 
 module _ {A : Type 0} where
   -- nothing is held
@@ -36,7 +31,7 @@ module _ {A : Type 0} where
     pub each : (i : ℕ) (d : A) → i < q.held → slice_index_or (contents q) i d ≡ slice_index_or q.memory (place q i) d
 
   abbrev pub oldest : Queue A → Option A
-  oldest q = first_of (contents q)
+  oldest q = slice_get (contents q) 0
 
   abbrev pub free_places : Queue A → ℕ
   free_places q = length q.memory - q.held

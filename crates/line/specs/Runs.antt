@@ -1,14 +1,11 @@
 -- Runs of puts and takes, and what they promise.
-use Rattle.std.specs.Prelude.{◌≡◌, cond, List, [], ◌∷◌, ◌++◌, Some, None, Option, ◌==◌}
+use Rattle.std.specs.Prelude.{◌≡◌, cond, List, [], ◌∷◌, ◌++◌, ◌==◌}
+use Rattle.std.specs.Option.{option_to_list}
 use Rattle.line.specs.Queues.{Queue, empty, contents, oldest, full, put, take}
 
 pub data Use (A : Type 0) : Type 0 where
   puts : A → Use A
   takes : Use A
-
-abbrev pub listed : {A : Type 0} → Option A → List A
-listed None = []
-listed (Some x) = x ∷ []
 
 module _ {A : Type 0} where
   -- where a use leads: a put into a full queue and a take out of one that holds nothing leave it as it is
@@ -23,7 +20,7 @@ module _ {A : Type 0} where
 
   abbrev pub comes_out : Queue A → Use A → List A
   comes_out q (puts x) = []
-  comes_out q takes = listed (oldest q)
+  comes_out q takes = option_to_list (oldest q)
 
   module _ (ms : List A) where
     -- where a run of uses, the newest first, leads from the empty queue over the memory

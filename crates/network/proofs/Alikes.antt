@@ -1,5 +1,6 @@
 -- Two networks whose golden flits stand alike, over one cycle in which no golden flit enters.
 use Rattle.std.proofs.Common.{◌≡◌, ℕ, ◌≤◌, ◌⊎◌, Some, sym, refl, ap, ◌∙◌, inl, inr, arith}
+use Rattle.std.proofs.lemmas.Option.{same_Some}
 use Rattle.fabric.specs.declared.parts.Flit.{Flit}
 use Rattle.fabric.specs.declared.parts.Port.{Port}
 use Rattle.fabric.specs.declared.parts.Slot.{Slot}
@@ -9,7 +10,6 @@ use Rattle.bounds.specs.declared.settings.Settings.{Settings}
 use Rattle.network.specs.Cycle.{Fabric, State, golden_in}
 use Rattle.network.specs.Computed.{taken, left, entering, ready, handing, arriving}
 use Rattle.network.specs.Promises.{Same}
-use Rattle.network.proofs.Places.{some_same}
 use Rattle.network.proofs.Nodes.{taken_here, slot_split, left_slot, left_gone, ready_split, left_ready, leads_to, arrives, came, taken_lowest, taken_low}
 use Rattle.network.proofs.Invariant.{Inv}
 use Rattle.network.proofs.Moving.{Slots}
@@ -134,7 +134,7 @@ module _ (F : Fabric) (law : Lawful F.plan) (sw : LawfulSwitch F.turn) (t : ℕ)
       c = there h.0 h.1 f h.2 k
 
       same : c.0 ≡ g
-      same = some_same (r.slot h.0 h.1) c.0 g c.1 h.3
+      same = same_Some c.0 g (sym c.1 ∙ h.3)
 
       number : g.number ≡ f.number
       number = sym (ap (λ (x : Flit). x.number) same) ∙ c.3

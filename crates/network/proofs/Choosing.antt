@@ -3,21 +3,18 @@ use Rattle.std.proofs.Common.{◌≡◌, ℕ, ◌+◌, ◌<◌, ◌≤◌, Bool,
 use mathlib.Core.Path.{fun_ext}
 use Rattle.std.proofs.lemmas.Bool.{cases_lt, eq-eqb, ne_eqb}
 use Rattle.std.proofs.lemmas.Bool.Decides.{nat_tests}
+use Rattle.std.proofs.lemmas.Option.{same_Some}
+use Rattle.std.specs.Option.{option_or}
 use Rattle.fabric.specs.declared.parts.Flit.{Flit}
 use Rattle.fabric.specs.declared.parts.Port.{Port}
 use Rattle.fabric.specs.declared.parts.Port.TheVariants.{N, E, S, W}
-use Rattle.fabric.specs.Ports.{place_of}
+use Rattle.fabric.specs.Ports.{place_of, same}
+use Rattle.fabric.specs.Places.{place_same, port_cases, place_below}
 use Rattle.bounds.specs.declared.settings.Settings.{Settings}
 use Rattle.network.specs.Log.{packet, word, aim, sent, waiting}
 use Rattle.network.specs.Cycle.{Fabric, Places, State, golden_in, in_slot_order, wish_of, Before, Takes, Changed, Remains, Next, FirstEmpty, LetsIn, Filled, Work, Works}
-use Rattle.network.specs.Computed.{due, ahead, better, best, same_port, without, with_flit, or_else, if_empty, gap, next_of, placed, taken, left, entering, ready, handing}
-use Rattle.network.proofs.Places.{some_none, some_same, pair_some, place_same, port_cases}
-
-place_small : (p : Port) → place_of p < 4
-place_small N = omega arith
-place_small E = omega arith
-place_small S = omega arith
-place_small W = omega arith
+use Rattle.network.specs.Computed.{due, ahead, better, best, without, with_flit, if_empty, gap, next_of, placed, taken, left, entering, ready, handing}
+use Rattle.network.proofs.Places.{some_none, pair_some}
 
 -- an earlier side, or this one
 earlier : (p q : Port) → place_of q < place_of p + 1 → (place_of q < place_of p) ⊎ (q ≡ p)
@@ -45,7 +42,7 @@ module _ (g : ℕ) (here : Places) where
 
   on_this : (p : Port) (f : Flit) (q : Port) (h : Flit) → q ≡ p → here p ≡ Some f → here q ≡ Some h → Before g p f q h
   on_this p f q h e u v =
-      let w : f ≡ h = some_same (here p) f h u (subst (λ (x : Port). here x ≡ Some h) e v) in
+      let w : f ≡ h = same_Some f h (sym u ∙ subst (λ (x : Port). here x ≡ Some h) e v) in
       record { golden_first = λ t. (ap (λ (x : Flit). x.ticket) w ∙ t, (let y = ap (λ (x : Flit). x.number) w in omega arith)); else_first = λ t. let y : place_of q ≡ place_of p = ap place_of e in omega arith }
 
   step : (p : Port) (acc : Option (Port × Flit)) → Upto (place_of p) acc → (o : Option Flit) → here p ≡ o → Upto (place_of p + 1) (better g acc p o)
@@ -77,7 +74,7 @@ module _ (g : ℕ) (here : Places) where
         λ q h k v. ⊎_elim
             (λ z. u.2 q h z v)
             (λ z.
-            let r : f ≡ h = some_same (here p) f h e (subst (λ (x : Port). here x ≡ Some h) z v) in
+            let r : f ≡ h = same_Some f h (sym e ∙ subst (λ (x : Port). here x ≡ Some h) z v) in
             record {
               golden_first = λ t. subst (λ (x : Flit). x.ticket ≡ g → (b.1.ticket ≡ g) × (b.1.number ≤ x.number)) r (ahead_no g f b.1 y) t;
               else_first = λ t. let i = u.1 in let j : place_of q ≡ place_of p = ap place_of z in omega arith;
@@ -93,9 +90,9 @@ module _ (g : ℕ) (here : Places) where
 
 module _ (g n : ℕ) (slots : Places) where
   takes_upto : (o : Option (Port × Flit)) → Upto g (λ p. due n (slots p)) 4 o → Takes g n slots o
-  takes_upto None u = λ p f d. some_none (due n (slots p)) f (u p (place_small p)) (due_here n (slots p) f d.0 d.1)
+  takes_upto None u = λ p f d. some_none (due n (slots p)) f (u p (place_below p)) (due_here n (slots p) f d.0 d.1)
   takes_upto (Some b) u =
-      (due_from n (slots b.0) b.1 u.0, λ q h d. u.2 q h (place_small q) (due_here n (slots q) h d.0 d.1))
+      (due_from n (slots b.0) b.1 u.0, λ q h d. u.2 q h (place_below q) (due_here n (slots q) h d.0 d.1))
 
   pub takes_best : Takes g n slots (best g (λ p. due n (slots p)))
   takes_best = takes_upto (best g (λ p. due n (slots p))) (best_of_all g (λ p. due n (slots p)))
@@ -110,11 +107,11 @@ module _ (g n : ℕ) (slots : Places) where
       let i = x.else_first y.golden_first in
       let j = y.else_first x.golden_first in
       let e : a.0 ≡ b.0 = place_same a.0 b.0 (omega arith) in
-      let d : a.1 ≡ b.1 = some_same (slots b.0) a.1 b.1 (subst (λ (p : Port). slots p ≡ Some a.1) e u.0.0) v.0.0 in
+      let d : a.1 ≡ b.1 = same_Some a.1 b.1 (sym (subst (λ (p : Port). slots p ≡ Some a.1) e u.0.0) ∙ v.0.0) in
       pair_some a b.0 b.1 e d
 
 module _ (p : Port) (o : Option Flit) (here : Places) where
-  changed_here : Changed p o here (λ q. cond (same_port p q) o (here q))
+  changed_here : Changed p o here (λ q. cond (same p q) o (here q))
   changed_here = record {
     there = rw (eq-eqb (place_of p) (place_of p) refl) refl;
     others = λ q h. rw (ne_eqb (place_of p) (place_of q) (λ e. h (place_same q p (sym e)))) refl;
@@ -147,7 +144,7 @@ module _ (here : Places) where
   Gap k None = (q : Port) → place_of q < k → here q ≡ None → ⊥
   Gap k (Some p) = FirstEmpty here p
 
-  gap_step : (p : Port) (acc : Option Port) → Gap (place_of p) acc → (o : Option Flit) → here p ≡ o → Gap (place_of p + 1) (or_else acc (if_empty o p))
+  gap_step : (p : Port) (acc : Option Port) → Gap (place_of p) acc → (o : Option Flit) → here p ≡ o → Gap (place_of p + 1) (option_or acc (if_empty o p))
   gap_step p (Some q) u o e = u
   gap_step p None u None e = record { empty = e; first = λ q h. ⊎_elim (λ k. absurd (u q k h)) (λ k. k) (cases_lt (place_of q) (place_of p)) }
   gap_step p None u (Some f) e = λ q k h.
@@ -155,15 +152,15 @@ module _ (here : Places) where
 
   gap_of_all : Gap 4 (gap here)
   gap_of_all =
-      gap_step W (or_else (or_else (if_empty (here N) N) (if_empty (here E) E)) (if_empty (here S) S))
-      (gap_step S (or_else (if_empty (here N) N) (if_empty (here E) E))
+      gap_step W (option_or (option_or (if_empty (here N) N) (if_empty (here E) E)) (if_empty (here S) S))
+      (gap_step S (option_or (if_empty (here N) N) (if_empty (here E) E))
       (gap_step E (if_empty (here N) N)
       (gap_step N None (λ q k. absurd (omega arith)) (here N) refl) (here E) refl) (here S) refl) (here W) refl
 
 module _ (F : Fabric) (P : Settings) (s : State) (n : ℕ) (here : Places) where
   lets_gap : (o : Option Port) → Gap here 4 o → (ts : List ℕ) → waiting P.tickets n s.log ≡ ts → LetsIn P s n here (placed F P s o (next_of F P s ts))
   lets_gap None e [] w = inl w
-  lets_gap None e (t ∷ ts) w = inr (λ p. e p (place_small p))
+  lets_gap None e (t ∷ ts) w = inr (λ p. e p (place_below p))
   lets_gap (Some p) e [] w = inl w
   lets_gap (Some p) e (t ∷ ts) w = (e, record { others = ts; ticket = w; number = refl; destination = refl; its_word = refl; now = refl })
 
@@ -225,7 +222,7 @@ module _ (F : Fabric) (P : Settings) (s : State) where
       let filled : Filled (entering F P s n) (left F P s n) w.ready = subst (λ (o : Option (Port × Flit)). Filled o (left F P s n) w.ready) d (subst (λ (x : Places). Filled w.entry x w.ready) b k.fills) in
       let e : w.ready ≡ ready F P s n = filled_one (entering F P s n) (left F P s n) w.ready (ready F P s n) filled c.fills in
       let p = k.places ∙ (ap (λ (x : Places). in_slot_order x) e ∙ sym c.places) in
-      let q = k.wishes ∙ (ap (λ (x : Places). in_slot_order (λ p. wish_of F n (x p))) e ∙ sym c.wishes) in
+      let q = k.wishes ∙ (ap (λ (x : Places). in_slot_order (λ p. wish_of F.plan n (x p))) e ∙ sym c.wishes) in
       let g = k.golden ∙ sym c.golden in
       let r = k.draws ∙ sym c.draws in
       λ i. record {

@@ -1,7 +1,7 @@
 -- How often things happen: an accepted packet brings at most four entries, four takings off and one collection.
 -- What each ticket may still bring is summed over all tickets. An accepted offer raises that sum by at most as much,
 -- and an entry, a taking off or a collection lowers its own sum by one.
-use Rattle.std.proofs.Common.{◌≡◌, ℕ, zero, suc, ◌+◌, ◌-◌, ◌*◌, ◌<◌, ◌≤◌, true, false, cond, eqb, ◌⊎◌, List, [], ◌∷◌, ◌++◌, length, Some, None, Option, sym, refl, ap, ◌∙◌, subst, inl, inr, arith}
+use Rattle.std.proofs.Common.{◌≡◌, ℕ, zero, suc, ◌+◌, ◌-◌, ◌*◌, ◌<◌, ◌≤◌, true, false, cond, eqb, ◌⊎◌, List, [], ◌∷◌, ◌++◌, length, Some, None, Option, sym, refl, ap, ◌∙◌, subst, inl, inr, arith, is_some}
 use Rattle.std.proofs.lemmas.Bool.{eq-eqb, ne_eqb, cases_eq}
 use Rattle.fabric.specs.declared.parts.Flit.{Flit}
 use Rattle.fabric.specs.declared.parts.Port.{Port}
@@ -9,7 +9,7 @@ use Rattle.fabric.specs.Layouts.{Lawful}
 use Rattle.fabric.specs.Verdicts.Verdict.{granted}
 use Rattle.bounds.specs.declared.settings.Settings.{Settings}
 use Rattle.bounds.specs.SetUp.{all_tickets, set_up_verdict}
-use Rattle.network.specs.Log.{Log, Packet, packet, size, free, sent, received, has}
+use Rattle.network.specs.Log.{Log, Packet, packet, size, free, sent, received}
 use Rattle.network.specs.Log.Happening.{offered, entered, off, collected}
 use Rattle.network.specs.Cycle.{Fabric, State, off_at, entered_at}
 use Rattle.network.specs.Runs.{Call, ticket, offer_verdict, cycle_verdict, collection, collect_verdict, with_log, count_off, Leads}
@@ -58,7 +58,7 @@ to_enter l t = size (packet t l) - sent t l
 
 -- the places of its record that are to be filled, each counted as 1,
 abbrev awaited : Log → ℕ → ℕ → ℕ
-awaited l t k = cond (has (received t k l)) 0 1
+awaited l t k = cond (is_some (received t k l)) 0 1
 
 abbrev to_come_off : Log → ℕ → ℕ
 to_come_off l t = total (λ k. awaited l t k) (size (packet t l))
@@ -210,4 +210,4 @@ module _ (F : Fabric) (P : Settings) where
 -- few things happen in every run
 pub few : (F : Fabric) (P : Settings) → Lawful F.plan → set_up_verdict F.plan P ≡ granted tt → {run : List Call} {s : State} → Leads F P run s → Few s.log
 few F P law ok {run} {s} leads =
-    subst (λ (x : State). Few x.log) (sym (led_one F P law leads)) (covered_few (run_covered F P (accepted F P ok).short law run))
+    subst (λ (x : State). Few x.log) (sym (led_one F P law leads)) (covered_few (run_covered F P (accepted F.plan P ok).short law run))

@@ -1,7 +1,8 @@
 -- The invariant over one cycle: node after node, and then each flit to its port's far end.
-use Rattle.std.proofs.Common.{◌≡◌, ℕ, zero, suc, ◌+◌, ◌*◌, ◌/◌, ◌<◌, ◌≤◌, cond, eqb, ltb, ◌⊎◌, List, ◌∷◌, ◌++◌, Some, None, Option, sym, refl, ap, ◌∙◌, subst, inl, inr, append_assoc, add-one, arith}
-use Rattle.std.proofs.lemmas.Nat.{div_below}
+use Rattle.std.proofs.Common.{◌≡◌, ℕ, zero, suc, ◌+◌, ◌/◌, ◌<◌, ◌≤◌, cond, eqb, ltb, ◌⊎◌, List, ◌∷◌, ◌++◌, Some, None, Option, sym, refl, ap, ◌∙◌, subst, inl, inr, append_assoc, add-one, arith}
 use Rattle.std.proofs.lemmas.Bool.{eq-eqb, ne_eqb, lt-ltb, le-ltb, cases_eq, cases_lt}
+use Rattle.std.proofs.lemmas.Nat.{row_below_turned}
+use Rattle.std.proofs.lemmas.Option.{some_pair_parts}
 use Rattle.fabric.specs.declared.parts.Flit.{Flit}
 use Rattle.fabric.specs.declared.parts.Port.{Port}
 use Rattle.fabric.specs.Layouts.{Lawful}
@@ -10,7 +11,7 @@ use Rattle.bounds.specs.declared.settings.Settings.{Settings}
 use Rattle.bounds.specs.SetUp.{all_tickets}
 use Rattle.network.specs.Cycle.{Fabric, State, Next, off_at, entered_at}
 use Rattle.network.specs.Computed.{taken, left, entering, ready, arriving, done, cycled}
-use Rattle.network.proofs.Places.{some_none, some_pair}
+use Rattle.network.proofs.Places.{some_none}
 use Rattle.network.proofs.Nodes.{taken_here, slot_split, left_slot, left_gone, enters, ready_split, left_ready, entering_ready, leads_to, arrives, came}
 use Rattle.network.proofs.Invariant.{Waits, Inv, Each}
 use Rattle.network.proofs.Moving.{Slots, inv_move}
@@ -19,14 +20,7 @@ use Rattle.network.proofs.Entering.{inv_enter}
 
 -- a ticket is one of an existing node
 pub ticket_node : (F : Fabric) (P : Settings) (t : ℕ) → t < all_tickets F.plan P → t / P.tickets < F.plan.nodes
-ticket_node F P t h = go (cases_lt 0 P.tickets)
-  where
-    go : (0 < P.tickets) ⊎ (P.tickets ≤ 0) → t / P.tickets < F.plan.nodes
-    go (inl k) = div_below t P.tickets F.plan.nodes k h
-    go (inr k) =
-        let e : P.tickets ≡ 0 = omega arith in
-        let y : t < F.plan.nodes * 0 = subst (λ (x : ℕ). t < F.plan.nodes * x) e h in
-        absurd (omega arith)
+ticket_node F P t h = (row_below_turned t P.tickets F.plan.nodes P.tickets h (omega arith)).1
 
 module _ (F : Fabric) (P : Settings) (s : State) where
   pub put_packet : (t n : ℕ) (o : Option (Port × Flit)) (l : Log) → packet t (entered_at n o ++ l) ≡ packet t l
@@ -190,7 +184,7 @@ module _ (F : Fabric) (P : Settings) (s : State) where
             (taken_here F P s k b.0 b.1 e).1
           where
             stays : (m : ℕ) (q : Port) (g : Flit) → ((m ≡ k) × (taken F P s k ≡ Some (q, g))) ⊎ (half_slot k m q ≡ Some g) → ((m ≡ k) × (q ≡ b.0)) ⊎ (half_slot k m q ≡ Some g)
-            stays m q g (inl t) = inl (t.0, (some_pair q b.0 g b.1 (sym t.1 ∙ e)).0)
+            stays m q g (inl t) = inl (t.0, (some_pair_parts q b.0 g b.1 (sym t.1 ∙ e)).0)
             stays m q g (inr t) = inr t
 
     pub next_of_half : (k : ℕ) (p : Port) (f : Flit) → entering F P s k ≡ Some (p, f) → Next P (half k) k f
@@ -243,7 +237,7 @@ module _ (F : Fabric) (P : Settings) (s : State) where
             (next_of_half k b.0 b.1 e))
           where
             back : (m : ℕ) (q : Port) (g : Flit) → ((m ≡ k) × (entering F P s k ≡ Some (q, g))) ⊎ (half_slot k m q ≡ Some g) → ((m ≡ k) × (q ≡ b.0) × (g ≡ b.1)) ⊎ (half_slot k m q ≡ Some g)
-            back m q g (inl t) = let w = some_pair q b.0 g b.1 (sym t.1 ∙ e) in inl (t.0, w.0, w.1)
+            back m q g (inl t) = let w = some_pair_parts q b.0 g b.1 (sym t.1 ∙ e) in inl (t.0, w.0, w.1)
             back m q g (inr t) = inr t
 
     start : Inv F P (stage zero) zero

@@ -3,6 +3,7 @@ use Rattle.std.proofs.Common.{◌≡◌, ℕ, ◌+◌, ◌*◌, ◌/◌, ◌%◌
 use native.Mathlib.Nat.{div-eq_of_lt-le}
 use Rattle.std.proofs.lemmas.Nat.{div-add-mod', div-mul-add, mod-mul-add, mod_below}
 use Rattle.std.proofs.lemmas.Bool.{cases_lt, cases_eq}
+use Rattle.std.proofs.lemmas.Option.{same_Some}
 use Rattle.fabric.specs.declared.parts.Flit.{Flit}
 use Rattle.fabric.specs.declared.parts.Port.{Port}
 use Rattle.fabric.specs.Layouts.{Lawful}
@@ -15,7 +16,7 @@ use Rattle.network.specs.Cycle.{Fabric, State, golden_in}
 use Rattle.network.specs.Runs.{Call}
 use Rattle.network.specs.Computed.{left, entering, arriving, cycled, next, after}
 use Rattle.network.specs.Promises.{Stands, OffOnce, NeverOff, InOneSlot, InNoSlot}
-use Rattle.network.proofs.Places.{some_none, some_same}
+use Rattle.network.proofs.Places.{some_none}
 use Rattle.network.proofs.Nodes.{left_slot, ready_split, Came, came}
 use Rattle.network.proofs.Invariant.{Inv}
 use Rattle.network.proofs.Golden.{enters_now, Lowest, lead, least}
@@ -127,7 +128,7 @@ module _ (F : Fabric) (P : Settings) where
                     split : (h'.number ≡ g.number) ⊎ (h'.number ≡ g.number → ⊥) → ⊥
                     split (inl d) =
                         let o = i.alone a w.0 r w.1 h' g v w.2 x d in
-                        let same : h' ≡ g = some_same (s.slot w.0 w.1) h' g (sym (λ j. s.slot (o.0 j) (o.1 j)) ∙ v) w.2 in
+                        let same : h' ≡ g = same_Some h' g (sym (sym (λ j. s.slot (o.0 j) (o.1 j)) ∙ v) ∙ w.2) in
                         let l = lead F P s i law sw w.0 m w.1 q g w.2 gold (subst (λ (f : Flit). Lowest F P s i f) same low) u in
                         let n = near e b h (omega arith) w.0 w.1 g w.2 t k in
                         omega arith

@@ -1,5 +1,6 @@
 -- The golden flits of a cycle: the lowest leads, and what a handing says of them.
 use Rattle.std.proofs.Common.{◌≡◌, ℕ, zero, suc, ◌+◌, ◌<◌, ◌≤◌, ◌⊎◌, Some, None, Option, sym, refl, ap, ◌∙◌, inl, inr, arith}
+use Rattle.std.proofs.lemmas.Option.{some_pair_parts}
 use Rattle.fabric.specs.declared.parts.Flit.{Flit}
 use Rattle.fabric.specs.declared.parts.Port.{Port}
 use Rattle.fabric.specs.declared.parts.Slot.{Slot}
@@ -10,7 +11,6 @@ use Rattle.network.specs.Log.{sent}
 use Rattle.bounds.specs.declared.settings.Settings.{Settings}
 use Rattle.network.specs.Cycle.{Fabric, State, golden_in, wish_of}
 use Rattle.network.specs.Computed.{left, entering, ready, handing, arriving}
-use Rattle.network.proofs.Places.{some_pair}
 use Rattle.network.proofs.Nodes.{left_slot, left_gone, enters, ready_split, left_ready, leads_to, at_places, at_wishes, golden_is, Came, came, taken_lowest}
 use Rattle.network.proofs.Invariant.{Inv}
 
@@ -30,7 +30,7 @@ module _ (F : Fabric) (P : Settings) (s : State) (i : Inv F P s 0) where
   ready_alone n p q f g u v t k = go (ready_split F P s n p f u) (ready_split F P s n q g v)
     where
       go : (entering F P s n ≡ Some (p, f)) ⊎ (left F P s n p ≡ Some f) → (entering F P s n ≡ Some (q, g)) ⊎ (left F P s n q ≡ Some g) → p ≡ q
-      go (inl a) (inl b) = (some_pair p q f g (sym a ∙ b)).0
+      go (inl a) (inl b) = (some_pair_parts p q f g (sym a ∙ b)).0
       go (inl a) (inr b) = let z = last_in n p f a n q g (left_slot F P s n q g b) (sym t) in absurd (omega arith)
       go (inr a) (inl b) = let z = last_in n q g b n p f (left_slot F P s n p f a) t in absurd (omega arith)
       go (inr a) (inr b) = (i.alone n n p q f g (left_slot F P s n p f a) (left_slot F P s n q g b) t k).1
@@ -43,7 +43,7 @@ module _ (F : Fabric) (P : Settings) (s : State) (i : Inv F P s 0) where
   ready_golden n p f e t = (at_places F P s n p ∙ e, t ∙ sym (golden_is F P s n))
 
   pub wish_is : (n : ℕ) (p : Port) (f : Flit) → ready F P s n p ≡ Some f → at (handing F P s n).wishes p ≡ F.plan.wish n f.destination
-  wish_is n p f e = at_wishes F P s n p ∙ ap (λ (o : Option Flit). wish_of F n o) e
+  wish_is n p f e = at_wishes F P s n p ∙ ap (λ (o : Option Flit). wish_of F.plan n o) e
 
   apart : (n : ℕ) → Apart (handing F P s n)
   apart n p q f g u v k =

@@ -1,9 +1,10 @@
 -- Every run of every network that set-up accepts keeps the promises.
-use Rattle.std.proofs.Common.{◌≡◌, ℕ, ◌+◌, ◌*◌, ◌<◌, ◌≤◌, ◌||◌, ltb, ◌⊎◌, List, ◌++◌, Some, sym, refl, ap, ◌∙◌, subst, inl, inr, mul-le-mul_right, arith}
+use Rattle.std.proofs.Common.{◌≡◌, ℕ, ◌+◌, ◌*◌, ◌<◌, ◌≤◌, ◌||◌, ltb, ◌⊎◌, List, ◌++◌, Some, sym, refl, ap, ◌∙◌, subst, inl, inr, mul-le-mul_right, arith, eqb}
 use Rattle.std.proofs.lemmas.Bool.{or_parts, ltb-false}
+use Rattle.std.proofs.lemmas.Option.{same_Some}
 use Rattle.fabric.specs.declared.parts.Flit.{Flit}
 use Rattle.fabric.specs.declared.parts.Port.{Port}
-use Rattle.fabric.specs.Layouts.{Lawful}
+use Rattle.fabric.specs.Layouts.{Lawful, Plan}
 use Rattle.fabric.specs.Verdicts.Verdict.{granted}
 use Rattle.switch.specs.Switches.{LawfulSwitch}
 use Rattle.bounds.specs.declared.settings.Settings.{Settings}
@@ -15,7 +16,6 @@ use Rattle.network.specs.Runs.{Call}
 use Rattle.network.specs.Promises.{Stands, OffOnce, NeverOff, InOneSlot, InNoSlot, Begins, Alike, NoneEntered, IntoEpoch, Together, Kept, Promised}
 use Rattle.network.specs.Computed.{after}
 use Rattle.network.proofs.Stand.{stands_below}
-use Rattle.network.proofs.Places.{some_same}
 use Rattle.network.proofs.Invariant.{Sits, Inv}
 use Rattle.network.proofs.Running.{peel, invariant}
 use Rattle.network.proofs.Delivery.{delivered}
@@ -25,22 +25,37 @@ use Rattle.network.proofs.Seen.{seen}
 use Rattle.network.proofs.Solving.{answered, led, led_one, all_told}
 
 -- what set-up has seen to
-pub record Accepted (F : Fabric) (P : Settings) : Type 0 where
-  pub enough : P.words * (F.plan.reach + 1) ≤ P.epoch
-  pub some : 0 < P.epoch
+pub record Accepted (p : Plan) (P : Settings) : Type 0 where
+  pub enough : P.words * (p.reach + 1) ≤ P.epoch
+  pub some_tickets : 0 < P.tickets
+  pub few_tickets : P.tickets ≤ 8
   pub short : P.words ≤ 4
+  pub some : 0 < P.epoch
+  pub ending : P.epoch ≤ 4096
+  pub narrow : P.seed < 65536
 
-pub accepted : (F : Fabric) (P : Settings) → set_up_verdict F.plan P ≡ granted tt → Accepted F P
-accepted F P e =
+pub accepted : (p : Plan) (P : Settings) → set_up_verdict p P ≡ granted tt → Accepted p P
+accepted p P e =
     let v1 = peel 1 (ltb P.tickets 1 || ltb 8 P.tickets || ltb P.words 1 || ltb 4 P.words) _ tt e in
-    let v2 = peel 2 (ltb P.epoch (shortest_epoch F.plan P) || ltb 4096 P.epoch) _ tt v1.1 in
-    let a = or_parts (ltb P.tickets 1 || ltb 8 P.tickets || ltb P.words 1) (ltb 4 P.words) v1.0 in
-    let b = or_parts (ltb P.tickets 1 || ltb 8 P.tickets) (ltb P.words 1) a.0 in
-    let words : 1 ≤ P.words = ltb-false P.words 1 b.1 in
-    let d = or_parts (ltb P.epoch (shortest_epoch F.plan P)) (ltb 4096 P.epoch) v2.0 in
-    let enough : P.words * (F.plan.reach + 1) ≤ P.epoch = ltb-false P.epoch (shortest_epoch F.plan P) d.0 in
-    let more : 1 * (F.plan.reach + 1) ≤ P.words * (F.plan.reach + 1) = mul-le-mul_right (F.plan.reach + 1) words in
-    record { enough = enough; some = omega arith; short = ltb-false 4 P.words a.1 }
+    let v2 = peel 2 (ltb P.epoch (shortest_epoch p P) || ltb 4096 P.epoch) _ tt v1.1 in
+    let v3 = peel 3 (eqb P.seed 0 || ltb 65535 P.seed) _ tt v2.1 in
+    let words = or_parts (ltb P.tickets 1 || ltb 8 P.tickets || ltb P.words 1) (ltb 4 P.words) v1.0 in
+    let word = or_parts (ltb P.tickets 1 || ltb 8 P.tickets) (ltb P.words 1) words.0 in
+    let tickets = or_parts (ltb P.tickets 1) (ltb 8 P.tickets) word.0 in
+    let epoch = or_parts (ltb P.epoch (shortest_epoch p P)) (ltb 4096 P.epoch) v2.0 in
+    let seed = or_parts (eqb P.seed 0) (ltb 65535 P.seed) v3.0 in
+    let one : 1 ≤ P.words = ltb-false P.words 1 word.1 in
+    let enough : P.words * (p.reach + 1) ≤ P.epoch = ltb-false P.epoch (shortest_epoch p P) epoch.0 in
+    let more : 1 * (p.reach + 1) ≤ P.words * (p.reach + 1) = mul-le-mul_right (p.reach + 1) one in
+    record {
+      enough = enough;
+      some_tickets = ltb-false P.tickets 1 tickets.0;
+      few_tickets = ltb-false 8 P.tickets tickets.1;
+      short = ltb-false 4 P.words words.1;
+      some = omega arith;
+      ending = ltb-false 4096 P.epoch epoch.1;
+      narrow = let z : P.seed ≤ 65535 = ltb-false 65535 P.seed seed.1 in omega arith;
+    }
 
 both : (R : State → State → Type 0) {a b c d : State} → a ≡ b → c ≡ d → R a c → R b d
 both R {a} {b} {c} {d} e f x = subst (R b) f (subst (λ (y : State). R y c) e x)
@@ -79,7 +94,7 @@ module _ (F : Fabric) (law : Lawful F.plan) where
       golden' : g.ticket ≡ t
       golden' =
           let z = alike.0 n p f u golden in
-          let w : z.0 ≡ g = some_same ((after F Q earlier').slot n p) z.0 g z.1 v in
+          let w : z.0 ≡ g = same_Some z.0 g (sym z.1 ∙ v) in
           sym (ap (λ (x : Flit). x.ticket) w) ∙ z.2
 
       go : Tied f g (after F P (more ++ earlier)).slot (after F Q (more' ++ earlier')).slot → Together (after F P (more ++ earlier)) (after F Q (more' ++ earlier')) f g
@@ -106,7 +121,7 @@ module _ (F : Fabric) (P : Settings) (law : Lawful F.plan) (sw : LawfulSwitch F.
   kept_after : Kept F P run (after F P run)
   kept_after =
       let i : Inv F P (after F P run) 0 = invariant F P law run in
-      let a : Accepted F P = accepted F P set_up in
+      let a : Accepted F.plan P = accepted F.plan P set_up in
       record {
         delivered = delivered F P law sw a.enough a.some run;
         accounted = i.accounted;

@@ -1,24 +1,19 @@
 -- What one cycle does at a node, as facts on its slots.
-use Rattle.std.proofs.Common.{◌≡◌, ℕ, ◌<◌, ◌≤◌, ◌⊎◌, List, Some, None, Option, sym, refl, ap, ◌∙◌, subst, inl, inr, ⊎_elim, arith}
+use Rattle.std.proofs.Common.{◌≡◌, ℕ, ◌<◌, ◌≤◌, ◌⊎◌, Some, None, Option, sym, refl, ap, ◌∙◌, subst, inl, inr, ⊎_elim, arith}
 use Rattle.std.proofs.lemmas.Bool.{cases_lt, lt-ltb, le-ltb}
+use Rattle.std.proofs.lemmas.Option.{same_Some}
 use Rattle.fabric.specs.declared.parts.Flit.{Flit}
 use Rattle.fabric.specs.declared.parts.Slot.{Slot}
 use Rattle.fabric.specs.declared.parts.Port.{Port}
-use Rattle.fabric.specs.declared.parts.Port.TheVariants.{N, E, S, W}
 use Rattle.fabric.specs.Layouts.{Exists, Missing, Lawful}
+use Rattle.fabric.specs.Places.{port_cases}
 use Rattle.fabric.proofs.Following.{far_exists}
-use Rattle.switch.specs.Switches.{Turn, at, turned}
+use Rattle.switch.specs.Switches.{at}
 use Rattle.bounds.specs.declared.settings.Settings.{Settings}
 use Rattle.network.specs.Cycle.{Fabric, State, golden_in, wish_of, Destined, Takes, Remains, LetsIn, Filled}
 use Rattle.network.specs.Computed.{taken, left, entering, ready, handing, leaving, arriving}
-use Rattle.network.proofs.Places.{some_none, some_same, pair_some, port_cases}
+use Rattle.network.proofs.Places.{some_none, pair_some, at_ordered, at_turned}
 use Rattle.network.proofs.Choosing.{work_is}
-
-pub at_turned : {A : Type 0} (t : Turn) (xs : List (Option A)) (q : Port) → at (turned t xs) q ≡ at xs (t.from q)
-at_turned t xs N = refl
-at_turned t xs E = refl
-at_turned t xs S = refl
-at_turned t xs W = refl
 
 module _ (F : Fabric) (P : Settings) (s : State) where
   taken_law : (n : ℕ) (p : Port) (f : Flit) → taken F P s n ≡ Some (p, f) → Takes (golden_in F P s.cycles) n (s.slot n) (Some (p, f))
@@ -35,7 +30,7 @@ module _ (F : Fabric) (P : Settings) (s : State) where
       go (Some b) t k =
           ⊎_elim
           (λ d.
-          let w : b.1 ≡ f = some_same (s.slot n b.0) b.1 f (taken_here n b.0 b.1 t).0 (subst (λ (q : Port). s.slot n q ≡ Some f) d e) in
+          let w : b.1 ≡ f = same_Some b.1 f (sym (taken_here n b.0 b.1 t).0 ∙ subst (λ (q : Port). s.slot n q ≡ Some f) d e) in
           inl (t ∙ pair_some b p f (sym d) w))
           (λ h. inr (k.others p h ∙ e)) (port_cases p b.0)
 
@@ -65,7 +60,7 @@ module _ (F : Fabric) (P : Settings) (s : State) where
       go (Some b) t k =
           ⊎_elim
           (λ d.
-          let w : b.1 ≡ f = some_same (ready F P s n b.0) b.1 f k.there (subst (λ (q : Port). ready F P s n q ≡ Some f) d e) in
+          let w : b.1 ≡ f = same_Some b.1 f (sym k.there ∙ subst (λ (q : Port). ready F P s n q ≡ Some f) d e) in
           inl (t ∙ pair_some b p f (sym d) w))
           (λ h. inr (sym (k.others p h) ∙ e)) (port_cases p b.0)
 
@@ -85,17 +80,11 @@ module _ (F : Fabric) (P : Settings) (s : State) where
 
   pub at_places : (n : ℕ) (p : Port) → at (handing F P s n).places p ≡ ready F P s n p
   unfolding handing
-  at_places n N = refl
-  at_places n E = refl
-  at_places n S = refl
-  at_places n W = refl
+  at_places n = at_ordered (ready F P s n)
 
-  pub at_wishes : (n : ℕ) (p : Port) → at (handing F P s n).wishes p ≡ wish_of F n (ready F P s n p)
+  pub at_wishes : (n : ℕ) (p : Port) → at (handing F P s n).wishes p ≡ wish_of F.plan n (ready F P s n p)
   unfolding handing
-  at_wishes n N = refl
-  at_wishes n E = refl
-  at_wishes n S = refl
-  at_wishes n W = refl
+  at_wishes n = at_ordered (λ p. wish_of F.plan n (ready F P s n p))
 
   pub golden_is : (n : ℕ) → (handing F P s n).golden ≡ golden_in F P s.cycles
   unfolding handing
@@ -169,5 +158,5 @@ module _ (F : Fabric) (P : Settings) (s : State) where
           let low : b.1.number ≤ f.number = g.1 in
           let least = lowest b.0 b.1 k.0.0 k.0.1 g.0 in
           let q : b.0 ≡ p = apart b.0 b.1 k.0.0 (g.0 ∙ sym t) (omega arith) in
-          let w : b.1 ≡ f = some_same (s.slot n p) b.1 f (subst (λ (x : Port). s.slot n x ≡ Some b.1) q k.0.0) e in
+          let w : b.1 ≡ f = same_Some b.1 f (sym (subst (λ (x : Port). s.slot n x ≡ Some b.1) q k.0.0) ∙ e) in
           u ∙ pair_some b p f q w

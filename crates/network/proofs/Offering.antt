@@ -1,18 +1,19 @@
 -- The invariant when an offer is accepted, or a packet collected.
-use Rattle.std.proofs.Common.{◌≡◌, ℕ, ◌/◌, ◌<◌, ◌≤◌, true, false, not, eqb, ◌⊎◌, List, [], ◌∷◌, ◌++◌, length, get_or, take, Some, None, Option, sym, refl, ap, ◌∙◌, subst, inl, inr, arith, take-suc}
+use Rattle.std.proofs.Common.{◌≡◌, ℕ, ◌/◌, ◌<◌, ◌≤◌, true, false, not, eqb, ◌⊎◌, List, [], ◌∷◌, ◌++◌, length, get_or, take, Some, None, Option, sym, refl, ap, ◌∙◌, subst, inl, inr, arith, take-suc, is_some, unwrap_or}
 use mathlib.Core.Path.{transport}
 use lib.Seq.{take-length}
 use Rattle.std.proofs.lemmas.Bool.{eq-eqb, ne_eqb, cases_eq, and_parts, not-true, both_ways}
+use Rattle.std.proofs.lemmas.Option.{same_Some}
 use Rattle.fabric.specs.declared.parts.Flit.{Flit}
 use Rattle.fabric.specs.declared.parts.Port.{Port}
-use Rattle.network.specs.Log.{Happening, Log, Packet, packet, size, word, aim, free, sent, received, has, value, filled, complete, gathered, waiting}
+use Rattle.network.specs.Log.{Happening, Log, Packet, packet, size, word, aim, free, sent, received, filled, complete, gathered, waiting, words_of}
 use Rattle.network.specs.Log.Happening.{offered, entered, off, collected}
 use Rattle.bounds.specs.declared.settings.Settings.{Settings}
 use Rattle.bounds.specs.SetUp.{all_tickets}
 use Rattle.network.specs.Cycle.{Fabric, State}
 use Rattle.network.specs.Promises.{Stands, OffOnce, NeverOff, InOneSlot, InNoSlot, OfPacket, OfferedLast}
 use Rattle.network.proofs.Stand.{stands_later, stands_cases, stands_older, none_stands, Other, never_more, once_more}
-use Rattle.network.proofs.Places.{some_none, some_same}
+use Rattle.network.proofs.Places.{some_none}
 use Rattle.network.proofs.Invariant.{Sits, Opened, Waits, Inv, Each, Distinct, each_map, each_snoc, distinct_snoc}
 
 -- no flit moves
@@ -161,7 +162,7 @@ offered_last t p (offered u q ∷ l) e o = go (cases_eq t u) (offered_last t p l
     go : (t ≡ u) ⊎ (t ≡ u → ⊥) → (packet t l ≡ Some p → free t l ≡ false → OfferedLast t p l) → OfferedLast t p (offered u q ∷ l)
     go (inl h) ih =
         let w : Some q ≡ Some p = rw (eq-eqb t u h) at e in
-        let v : q ≡ p = some_same (Some p) q p (sym w) refl in
+        let v : q ≡ p = same_Some q p w in
         record {
           there = record { newer = []; older = l; split = λ j. offered (sym h j) (v j) ∷ l };
           no_offer = λ x d. none_stands d;
@@ -207,8 +208,8 @@ pub filled_has : (t m : ℕ) (l : Log) → filled t m l ≡ true → (k : ℕ) �
 filled_has t ℕ.zero l e k h u = omega arith
 filled_has t (ℕ.suc m) l e k h u = go (cases_eq k m) (filled_has t m l)
   where
-    parts : (filled t m l ≡ true) × (has (received t m l) ≡ true)
-    parts = and_parts (filled t m l) (has (received t m l)) e
+    parts : (filled t m l ≡ true) × (is_some (received t m l) ≡ true)
+    parts = and_parts (filled t m l) (is_some (received t m l)) e
 
     go : (k ≡ m) ⊎ (k ≡ m → ⊥) → (filled t m l ≡ true → (k : ℕ) → k < m → received t k l ≡ None → ⊥) → ⊥
     go (inl d) ih =
@@ -220,10 +221,11 @@ some_of : (o : Option ℕ) → (o ≡ None → ⊥) → (w : ℕ) × (o ≡ Some
 some_of None h = absurd (h refl)
 some_of (Some w) h = (w, refl)
 
-gathered_is : (t m : ℕ) (l : Log) (ws : List ℕ) → m ≤ length ws → ((k : ℕ) → k < m → value (received t k l) ≡ get_or ws k 0) → gathered t m l ≡ take m ws
-gathered_is t ℕ.zero l ws h e = refl
-gathered_is t (ℕ.suc m) l ws h e =
-    (λ j. gathered_is t m l ws (omega arith) (λ k d. e k (omega arith)) j ++ (e m (omega arith) j ∷ [])) ∙ sym (take-suc ws m 0 h)
+-- the words in the first places are the first of a list
+pub words_upto : (f : ℕ → Option ℕ) (m : ℕ) (ws : List ℕ) → m ≤ length ws → ((k : ℕ) → k < m → unwrap_or (f k) 0 ≡ get_or ws k 0) → words_of f m ≡ take m ws
+words_upto f ℕ.zero ws h e = refl
+words_upto f (ℕ.suc m) ws h e =
+    (λ j. words_upto f m ws (omega arith) (λ k d. e k (omega arith)) j ++ (e m (omega arith) j ∷ [])) ∙ sym (take-suc ws m 0 h)
 
 -- a complete ticket is open, and its record filled
 pub complete_parts : (t : ℕ) (l : Log) → complete t l ≡ true → (free t l ≡ false) × (filled t (size (packet t l)) l ≡ true)
@@ -276,15 +278,15 @@ module _ (F : Fabric) (P : Settings) (s : State) (N : ℕ) (i : Inv F P s N) (u 
       long : size (packet u s.log) ≡ length p.words
       long = rw e
 
-      each : (k : ℕ) → k < length p.words → value (received u k s.log) ≡ get_or p.words k 0
+      each : (k : ℕ) → k < length p.words → unwrap_or (received u k s.log) 0 ≡ get_or p.words k 0
       each k h =
           let z = some_of (received u k s.log) (filled_has u (size (packet u s.log)) s.log parts.1 k (rw long h)) in
           let y : z.0 ≡ word (packet u s.log) k = i.right_words u k z.0 was_open z.1 in
           let x : z.0 ≡ get_or p.words k 0 = y ∙ ap (λ (o : Option Packet). word o k) e in
-          ap (λ (o : Option ℕ). value o) z.1 ∙ x
+          ap (λ (o : Option ℕ). unwrap_or o 0) z.1 ∙ x
 
       w : p.words ≡ ws_c
-      w = sym (ap (λ (m : ℕ). gathered u m s.log) long ∙ gathered_is u (length p.words) s.log p.words (omega arith) each ∙ take-length p.words)
+      w = sym (ap (λ (m : ℕ). gathered u m s.log) long ∙ words_upto (λ k. received u k s.log) (length p.words) p.words (omega arith) each ∙ take-length p.words)
 
   pub inv_collect : Inv F P (record { cycles = s.cycles; slot = s.slot; log = collected u r ws_c ∷ s.log }) N
   inv_collect =

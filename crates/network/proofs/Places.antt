@@ -1,34 +1,23 @@
--- Options and ports.
-use Rattle.std.proofs.Common.{◌≡◌, ◌⊎◌, Some, None, Option, sym, refl, ap, ◌∙◌, inl, inr, ⊎_elim}
-use Rattle.std.proofs.lemmas.Bool.{cases_eq}
+-- Options and places.
+use Rattle.std.proofs.Common.{◌≡◌, List, Some, None, Option, refl}
 use Rattle.fabric.specs.declared.parts.Flit.{Flit}
 use Rattle.fabric.specs.declared.parts.Port.{Port}
 use Rattle.fabric.specs.declared.parts.Port.TheVariants.{N, E, S, W}
-use Rattle.fabric.specs.Ports.{place_of}
-use Rattle.network.specs.Runs.{port_of}
+use Rattle.switch.specs.Switches.{Turn, at, turned}
+use Rattle.network.specs.Cycle.{in_slot_order}
 
 pub some_none : {A B : Type 0} (o : Option A) (x : A) → o ≡ None → o ≡ Some x → B
 some_none o x p q = cc
 
-pub some_same : {A : Type 0} (o : Option A) (x y : A) → o ≡ Some x → o ≡ Some y → x ≡ y
-some_same o x y p q = cc
-
 pub pair_some : (b : Port × Flit) (p : Port) (f : Flit) → b.0 ≡ p → b.1 ≡ f → Some b ≡ Some (p, f)
 pair_some b p f u v = λ i. Some (u i, v i)
 
-pub some_pair : (p q : Port) (k f : Flit) → ◌≡◌ {A = Option (Port × Flit)} (Some (p, k)) (Some (q, f)) → (p ≡ q) × (k ≡ f)
-some_pair p q k f e =
-    let u : ◌≡◌ {A = Port × Flit} (p, k) (q, f) = some_same (Some (q, f)) (p, k) (q, f) (sym e) refl in
-    (ap (λ (x : Port × Flit). x.0) u, ap (λ (x : Port × Flit). x.1) u)
+-- what stands at a side of four places in slot order
+pub at_ordered : {A : Type 0} (here : Port → Option A) (p : Port) → at (in_slot_order here) p ≡ here p
+at_ordered here N = refl
+at_ordered here E = refl
+at_ordered here S = refl
+at_ordered here W = refl
 
-port_back : (p : Port) → port_of (place_of p) ≡ p
-port_back N = refl
-port_back E = refl
-port_back S = refl
-port_back W = refl
-
-pub place_same : (p q : Port) → place_of p ≡ place_of q → p ≡ q
-place_same p q e = sym (port_back p) ∙ (ap port_of e ∙ port_back q)
-
-pub port_cases : (p q : Port) → (p ≡ q) ⊎ (p ≡ q → ⊥)
-port_cases p q = ⊎_elim (λ e. inl (place_same p q e)) (λ h. inr (λ e. h (ap place_of e))) (cases_eq (place_of p) (place_of q))
+pub at_turned : {A : Type 0} (t : Turn) (xs : List (Option A)) (q : Port) → at (turned t xs) q ≡ at xs (t.from q)
+at_turned t xs = at_ordered (λ p. at xs (t.from p))

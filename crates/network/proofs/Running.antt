@@ -1,6 +1,7 @@
 -- The invariant after every run of calls, and what one call changes.
-use Rattle.std.proofs.Common.{◌≡◌, ℕ, ◌+◌, ◌*◌, ◌<◌, ◌≤◌, Bool, true, false, cond, not, ◌||◌, eqb, ltb, leb, ◌⊎◌, List, [], ◌∷◌, ◌++◌, length, None, refl, inl, inr, mul-le-mul_right, arith}
+use Rattle.std.proofs.Common.{◌≡◌, ℕ, ◌<◌, ◌≤◌, Bool, true, false, cond, not, ◌||◌, eqb, ltb, leb, ◌⊎◌, List, [], ◌∷◌, ◌++◌, length, None, refl, inl, inr, arith}
 use Rattle.std.proofs.lemmas.Bool.{eqb-true, eqb-false, leb-false, ltb-false, or_parts, not-false, both_ways}
+use lib.Arith.{digits_lt}
 use Rattle.fabric.specs.Layouts.{Lawful}
 use Rattle.network.specs.Log.{Log, packet, size, aim, free, complete, gathered}
 use Rattle.network.specs.Log.Happening.{offered, collected}
@@ -48,11 +49,6 @@ module _ (F : Fabric) (P : Settings) where
         collections = λ t r ws e. absurd (none_stands e);
       }
 
-  own_ticket : (n o : ℕ) → n < F.plan.nodes → o < P.tickets → n * P.tickets + o < all_tickets F.plan P
-  own_ticket n o h k =
-      let y : (n + 1) * P.tickets ≤ F.plan.nodes * P.tickets = mul-le-mul_right P.tickets (let w : n + 1 ≤ F.plan.nodes = omega arith in w) in
-      omega arith
-
   -- what an accepted offer was tested for
   pub record Offerable (s : State) (n o d : ℕ) (ws : List ℕ) : Type 0 where
     pub is_free : free (ticket F P n o) s.log ≡ true
@@ -73,7 +69,7 @@ module _ (F : Fabric) (P : Settings) where
       let l0 = eqb-false (length ws) 0 w_w.0 in
       record {
         is_free = not-false (free (ticket F P n o) s.log) v7.0;
-        ticket_exists = own_ticket n o (leb-false F.plan.nodes n n_o.0) (leb-false P.tickets o n_o.1);
+        ticket_exists = digits_lt (leb-false F.plan.nodes n n_o.0) (leb-false P.tickets o n_o.1);
         goes = leb-false F.plan.nodes d d_n.0;
         some = omega arith;
         short = ltb-false P.words (length ws) w_w.1;

@@ -40,7 +40,7 @@ entered_told : (n : ℕ) (o : Option (Port × Flit)) (l : Log) → length (told 
 entered_told n None l = omega arith
 entered_told n (Some b) l = omega (arith, length-append (told l) (event_in b.1 n ∷ []))
 
-few_told : (c : ℕ) (work : ℕ → Work) (n : ℕ) → length (told (news c work n)) ≤ 2 * n
+pub few_told : (c : ℕ) (work : ℕ → Work) (n : ℕ) → length (told (news c work n)) ≤ 2 * n
 few_told c work zero = omega arith
 few_told c work (suc n) =
     let a = few_told c work n in

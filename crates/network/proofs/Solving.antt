@@ -24,9 +24,20 @@ use Rattle.network.specs.Computed.{leaving, arriving, done, cycled, decided, nex
 use Rattle.network.proofs.Choosing.{computed, work_is, work_one}
 use Rattle.network.proofs.Nodes.{arriving_is, arriving_none}
 
+-- what is told of two logs
+one_later : (a b c d : List Event) → a ≡ b ++ c → a ++ d ≡ b ++ (c ++ d)
+one_later a b c d e = ap (λ (x : List Event). x ++ d) e ∙ append_assoc b c d
+
+pub told_both : (l m : Log) → told (l ++ m) ≡ told m ++ told l
+told_both [] m = sym (append-nil (told m))
+told_both (offered t p ∷ l) m = told_both l m
+told_both (entered f n ∷ l) m = one_later (told (l ++ m)) (told m) (told l) _ (told_both l m)
+told_both (off f n d ∷ l) m = one_later (told (l ++ m)) (told m) (told l) _ (told_both l m)
+told_both (collected t r ws ∷ l) m = told_both l m
+
 module _ (F : Fabric) (P : Settings) where
   module _ (s : State) where
-    news_done : (work : ℕ → Work) (m : ℕ) → ((n : ℕ) → n < m → work n ≡ computed F P s n) → news s.cycles work m ≡ done F P s m
+    pub news_done : (work : ℕ → Work) (m : ℕ) → ((n : ℕ) → n < m → work n ≡ computed F P s n) → news s.cycles work m ≡ done F P s m
     unfolding done
     news_done work zero h = refl
     news_done work (suc m) h =
@@ -129,16 +140,6 @@ module _ (F : Fabric) (P : Settings) where
     led_one set_up = refl
     led_one (one_more {run} {s} {r} {k} {o} l v) =
         (served_one law (after F P run) (subst (λ (x : State). Serves F P x k o r) (led_one l) v)).1
-
-  one_later : (a b c d : List Event) → a ≡ b ++ c → a ++ d ≡ b ++ (c ++ d)
-  one_later a b c d e = ap (λ (x : List Event). x ++ d) e ∙ append_assoc b c d
-
-  told_both : (l m : Log) → told (l ++ m) ≡ told m ++ told l
-  told_both [] m = sym (append-nil (told m))
-  told_both (offered t p ∷ l) m = told_both l m
-  told_both (entered f n ∷ l) m = one_later (told (l ++ m)) (told m) (told l) _ (told_both l m)
-  told_both (off f n d ∷ l) m = one_later (told (l ++ m)) (told m) (told l) _ (told_both l m)
-  told_both (collected t r ws ∷ l) m = told_both l m
 
   grows : {s : State} {k : Call} {o : Outcome} {r : State} (v : Serves F P s k o r) → told r.log ≡ told s.log ++ puts v
   grows {s} (offer_granted e) = sym (append-nil (told s.log))

@@ -1,6 +1,7 @@
 -- The invariant when a flit is taken off.
 use Rattle.std.proofs.Common.{◌≡◌, ℕ, ◌<◌, ◌≤◌, true, false, ◌&&◌, eqb, ◌⊎◌, List, ◌∷◌, Some, None, sym, ap, ◌∙◌, subst, inl, inr, arith}
 use Rattle.std.proofs.lemmas.Bool.{eqb-true, cases_Bool, and_parts}
+use Rattle.std.proofs.lemmas.Option.{same_Some}
 use Rattle.fabric.specs.declared.parts.Flit.{Flit}
 use Rattle.fabric.specs.declared.parts.Port.{Port}
 use Rattle.network.specs.Log.{Log, packet, word, free, sent, received, waiting}
@@ -9,7 +10,6 @@ use Rattle.bounds.specs.declared.settings.Settings.{Settings}
 use Rattle.network.specs.Cycle.{Fabric, State}
 use Rattle.network.specs.Promises.{Same, Stands, OffOnce, NeverOff, InOneSlot, InNoSlot, OfPacket, OfferedLast}
 use Rattle.network.proofs.Stand.{stands_later, stands_cases, stands_older, Other, never_more, once_more, once_now}
-use Rattle.network.proofs.Places.{some_same}
 use Rattle.network.proofs.Invariant.{Sits, Waits, Inv, each_map}
 use Rattle.network.proofs.Moving.{Slots}
 
@@ -112,7 +112,7 @@ module _ (F : Fabric) (P : Settings) (s : State) (N : ℕ) (i : Inv F P s N) (ne
       go : ((h.1.node ≡ n) × (h.1.port ≡ p)) ⊎ (new h.1.node h.1.port ≡ Some g) → (OffOnce g log × InNoSlot g now) ⊎ (NeverOff g log × InOneSlot g now)
       go (inl k) =
           let w : s.slot n p ≡ Some g = sym (λ j. s.slot (k.0 j) (k.1 j)) ∙ h.1.here in
-          let x : f ≡ g = some_same (s.slot n p) f g rm.there w in
+          let x : f ≡ g = same_Some f g (sym rm.there ∙ w) in
           let y : n ≡ g.destination = sym home ∙ ap (λ (z : Flit). z.destination) x in
           inl (
             once_now n s.cycles (itself x) y h.0,

@@ -1,9 +1,10 @@
 -- What one cycle, a call and a run come to, computed: the one solution of the relations in Cycle and Runs.
 use Rattle.std.specs.Prelude.{ℕ, ◌+◌, Bool, cond, not, ◌&&◌, ◌||◌, List, [], ◌∷◌, ◌++◌, Some, None, Option, ◌==◌, nat_lt}
+use Rattle.std.specs.Option.{option_or}
 use Rattle.fabric.specs.declared.parts.Flit.{Flit}
 use Rattle.fabric.specs.declared.parts.Port.{Port}
 use Rattle.fabric.specs.declared.parts.Port.TheVariants.{N, E, S, W}
-use Rattle.fabric.specs.Ports.{place_of}
+use Rattle.fabric.specs.Ports.{same}
 use Rattle.fabric.specs.Verdicts.{Verdict, granting}
 use Rattle.fabric.specs.Verdicts.Verdict.{granted, refused}
 use Rattle.switch.specs.Switches.{Handing, at, turned}
@@ -34,29 +35,22 @@ better g (Some b) p (Some f) = cond (ahead g f b.1) (Some (p, f)) (Some b)
 abbrev pub best : ℕ → Places → Option (Port × Flit)
 best g here = better g (better g (better g (better g None N (here N)) E (here E)) S (here S)) W (here W)
 
-abbrev pub same_port : Port → Port → Bool
-same_port p q = place_of p == place_of q
-
 -- four places with one of them emptied, or filled
 abbrev pub without : Option (Port × Flit) → Places → Places
 without None here p = here p
-without (Some b) here p = cond (same_port b.0 p) None (here p)
+without (Some b) here p = cond (same b.0 p) None (here p)
 
 abbrev pub with_flit : Option (Port × Flit) → Places → Places
 with_flit None here p = here p
-with_flit (Some b) here p = cond (same_port b.0 p) (Some b.1) (here p)
-
--- the first empty place, in slot order
-abbrev pub or_else : Option Port → Option Port → Option Port
-or_else (Some p) q = Some p
-or_else None q = q
+with_flit (Some b) here p = cond (same b.0 p) (Some b.1) (here p)
 
 abbrev pub if_empty : Option Flit → Port → Option Port
 if_empty None p = Some p
 if_empty (Some f) p = None
 
+-- the first empty place, in slot order
 abbrev pub gap : Places → Option Port
-gap here = or_else (or_else (or_else (if_empty (here N) N) (if_empty (here E) E)) (if_empty (here S) S)) (if_empty (here W) W)
+gap here = option_or (option_or (option_or (if_empty (here N) N) (if_empty (here E) E)) (if_empty (here S) S)) (if_empty (here W) W)
 
 module _ (F : Fabric) (P : Settings) (s : State) where
   unfoldable pub taken : ℕ → Option (Port × Flit)
@@ -91,7 +85,7 @@ module _ (F : Fabric) (P : Settings) (s : State) where
   handing n =
       record {
         places = in_slot_order (ready n);
-        wishes = in_slot_order (λ p. wish_of F n (ready n p));
+        wishes = in_slot_order (λ p. wish_of F.plan n (ready n p));
         golden = golden_in F P s.cycles;
         draws = draws_at F P s n;
       }

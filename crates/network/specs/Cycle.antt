@@ -92,9 +92,9 @@ Filled (Some b) here then = Changed b.0 (Some b.1) here then
 -- Steps 3 and 4: drawing and switching.
 
 -- the wish of a flit at node n is its layout's, for its destination
-abbrev pub wish_of : Fabric → ℕ → Option Flit → Option Port
-wish_of F n None = None
-wish_of F n (Some f) = F.plan.wish n f.destination
+abbrev pub wish_of : Plan → ℕ → Option Flit → Option Port
+wish_of p n None = None
+wish_of p n (Some f) = p.wish n f.destination
 
 -- the draw register has moved once for each node in each earlier cycle, and in this one for the nodes up to n
 abbrev pub draws_at : Fabric → Settings → State → ℕ → List Bool
@@ -121,7 +121,7 @@ pub record Works (F : Fabric) (P : Settings) (s : State) (n : ℕ) (w : Work) : 
   pub fills : Filled w.entry w.left w.ready
   -- the four places in slot order, their wishes, the golden ticket of the cycle and the draw bits
   pub places : w.handing.places ≡ in_slot_order w.ready
-  pub wishes : w.handing.wishes ≡ in_slot_order (λ p. wish_of F n (w.ready p))
+  pub wishes : w.handing.wishes ≡ in_slot_order (λ p. wish_of F.plan n (w.ready p))
   pub golden : w.handing.golden ≡ golden_in F P s.cycles
   pub draws : w.handing.draws ≡ draws_at F P s n
 

@@ -1,6 +1,7 @@
 -- What has happened in a network, newest first, and what that says of its tickets.
 -- Ticket number t is one of node t / T, where each node has T tickets.
-use Rattle.std.specs.Prelude.{ℕ, ◌+◌, ◌/◌, Bool, true, false, cond, not, ◌&&◌, List, [], ◌∷◌, ◌++◌, length, drop, Some, None, Option, ◌==◌, slice_index}
+use Rattle.std.specs.Prelude.{ℕ, ◌+◌, ◌/◌, Bool, true, false, cond, not, ◌&&◌, List, [], ◌∷◌, ◌++◌, length, drop, Some, None, Option, is_some, ◌==◌, slice_index}
+use Rattle.std.specs.Option.{unwrap_or}
 use Rattle.fabric.specs.declared.parts.Flit.{Flit}
 
 pub record Packet : Type 0 where
@@ -64,27 +65,27 @@ received t k (entered f n ∷ l) = received t k l
 received t k (off f n c ∷ l) = cond (t == f.ticket && k == f.number) (Some f.word) (received t k l)
 received t k (collected u r ws ∷ l) = received t k l
 
-abbrev pub has : Option ℕ → Bool
-has None = false
-has (Some w) = true
+-- of numbered places, the first m all hold a word
+abbrev pub all_held : (ℕ → Option ℕ) → ℕ → Bool
+all_held w ℕ.zero = true
+all_held w (ℕ.suc m) = all_held w m && is_some (w m)
 
-abbrev pub value : Option ℕ → ℕ
-value None = 0
-value (Some w) = w
+-- the words of the first m places
+abbrev pub words_of : (ℕ → Option ℕ) → ℕ → List ℕ
+words_of w ℕ.zero = []
+words_of w (ℕ.suc m) = words_of w m ++ (unwrap_or (w m) 0 ∷ [])
 
 -- the first m places of a ticket's record all hold a word
 abbrev pub filled : ℕ → ℕ → Log → Bool
-filled t ℕ.zero l = true
-filled t (ℕ.suc m) l = filled t m l && has (received t m l)
+filled t m l = all_held (λ k. received t k l) m
 
 -- all flits of its packet are taken off
 abbrev pub complete : ℕ → Log → Bool
 complete t l = not (free t l) && filled t (size (packet t l)) l
 
--- the words of the first m places
+-- the words of the first m places of a ticket's record
 abbrev pub gathered : ℕ → ℕ → Log → List ℕ
-gathered t ℕ.zero l = []
-gathered t (ℕ.suc m) l = gathered t m l ++ (value (received t m l) ∷ [])
+gathered t m l = words_of (λ k. received t k l) m
 
 -- the tickets of a node whose packets wait, in the order of their offers; a packet waits until its last flit enters
 abbrev pub waiting : (T n : ℕ) → Log → List ℕ

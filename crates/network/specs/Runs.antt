@@ -1,10 +1,9 @@
 -- The calls that a network receives, what each is answered, and where a run of calls leads.
 use Rattle.std.specs.Prelude.{◌≡◌, ℕ, ◌+◌, ◌*◌, Bool, not, ◌||◌, List, [], ◌∷◌, ◌++◌, length, drop, None, Option, ◌==◌, nat_le, nat_lt}
 use Rattle.fabric.specs.declared.parts.Flit.{Flit}
-use Rattle.fabric.specs.declared.parts.Port.{Port}
-use Rattle.fabric.specs.declared.parts.Port.TheVariants.{N, E, S, W}
 use Rattle.fabric.specs.Verdicts.{Verdict, judged}
 use Rattle.fabric.specs.Verdicts.Verdict.{granted, refused}
+use Rattle.fabric.specs.Ports.{port_of}
 use Rattle.line.specs.Queues.{Queue, free_places, put}
 use Rattle.bounds.specs.declared.settings.Settings.{Settings}
 use Rattle.network.specs.declared.event.Event.{Event}
@@ -12,6 +11,7 @@ use Rattle.network.specs.declared.event.Kind.TheVariants.{In, Out}
 use Rattle.network.specs.Log.{Happening, Log, packet, size, aim, free, complete, gathered}
 use Rattle.network.specs.Log.Happening.{offered, entered, off, collected}
 use Rattle.network.specs.Cycle.{Fabric, State, Cycle, happened}
+use Rattle.network.specs.declared.event.Kind.{Kind}
 
 pub data Call : Type 0 where
   -- node, own ticket, destination, words
@@ -30,18 +30,15 @@ pub data Outcome : Type 0 where
   collecting : Verdict ℕ → List ℕ → Outcome
   looking : Verdict (Option Flit) → Outcome
 
--- the port of a number, in slot order
-abbrev pub port_of : ℕ → Port
-port_of ℕ.zero = N
-port_of (ℕ.suc ℕ.zero) = E
-port_of (ℕ.suc (ℕ.suc ℕ.zero)) = S
-port_of (ℕ.suc (ℕ.suc (ℕ.suc k))) = W
+-- what is told of a flit, in a cycle, at a node
+abbrev pub event_of : ℕ → Kind → Flit → ℕ → Event
+event_of c k f n = record { cycle = c; kind = k; ticket = f.ticket; number = f.number; node = n; entered = f.entered }
 
 abbrev pub event_in : Flit → ℕ → Event
-event_in f n = record { cycle = f.entered; kind = In; ticket = f.ticket; number = f.number; node = n; entered = f.entered }
+event_in f n = event_of f.entered In f n
 
 abbrev pub event_out : Flit → ℕ → ℕ → Event
-event_out f n c = record { cycle = c; kind = Out; ticket = f.ticket; number = f.number; node = n; entered = f.entered }
+event_out f n c = event_of c Out f n
 
 -- what entered and what was taken off, as events, the oldest first
 abbrev pub told : Log → List Event

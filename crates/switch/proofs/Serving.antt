@@ -5,12 +5,12 @@ use borrow.Author.Tests.{eqb-false}
 use Rattle.fabric.specs.declared.parts.Port.{Port}
 use Rattle.fabric.specs.declared.parts.Port.TheVariants.{N, E, S, W}
 use Rattle.fabric.specs.declared.parts.Flit.{Flit}
-use Rattle.fabric.specs.Ports.{place_of}
+use Rattle.fabric.specs.Ports.{place_of, same}
+use Rattle.fabric.specs.Places.{place_below, same_true}
 use Rattle.switch.specs.Switches.{at}
-use Rattle.switch.specs.Sides.{Sides, every, held, same, without, size, same_true, none_left, one_less}
+use Rattle.switch.specs.Sides.{Sides, every, held, without, size, none_left, one_less}
 use Rattle.switch.specs.Pairings.{look, flipped}
 use Rattle.switch.specs.Blesses.{best, chosen, chosen_free, served}
-use Rattle.switch.specs.Ordered.{place_small}
 
 -- four places, and one of them written
 four : {A : Type 0} (d : A) (xs : List A) → length xs ≡ 4 → xs ≡ get_or xs 0 d ∷ get_or xs 1 d ∷ get_or xs 2 d ∷ get_or xs 3 d ∷ []
@@ -25,7 +25,7 @@ written : {A : Type 0} (d v : A) (xs : List A) (q p : Port) → length xs ≡ 4 
 written d v xs q p e = go (same p q) refl
   where
     go : (b : Bool) → same p q ≡ b → get_or (set xs (place_of q) v) (place_of p) d ≡ cond b v (get_or xs (place_of p) d)
-    go true r = rw (same_true p q r) (get_or-set_same xs (place_of q) v d (rw e (place_small q)))
+    go true r = rw (same_true p q r) (get_or-set_same xs (place_of q) v d (rw e (place_below q)))
     go false r = get_or-set_other xs (place_of q) (place_of p) v d (eqb-false (place_of p) (place_of q) r)
 
 held_set : (xs : List Bool) (q : Port) → length xs ≡ 4 → held (set xs (place_of q) false) ≡ without (held xs) q

@@ -6,11 +6,12 @@ use Rattle.std.proofs.lemmas.Option.{same_Some}
 use Rattle.fabric.specs.declared.parts.Port.{Port}
 use Rattle.fabric.specs.declared.parts.Port.TheVariants.{N, E, S, W}
 use Rattle.fabric.specs.declared.parts.Flit.{Flit}
-use Rattle.fabric.specs.Ports.{place_of}
+use Rattle.fabric.specs.Ports.{place_of, looked_at}
+use Rattle.fabric.specs.Places.{place_below, same_or_not}
 use Rattle.switch.specs.Switches.{Handing, Golden, Carried, at}
-use Rattle.switch.specs.Blesses.{standing, Lower, Before, Taken, looked_at, Leaves, later, bless_turn}
+use Rattle.switch.specs.Blesses.{standing, Lower, Before, Taken, Leaves, later, bless_turn}
 use Rattle.switch.specs.Ranked.{Best, best_passes, golden_or_plain}
-use Rattle.switch.specs.Ordered.{place_small, same_or_not, before_irr, before_trans, rises, leaves_same, bless_lawful}
+use Rattle.switch.specs.Ordered.{before_irr, before_trans, rises, leaves_same, bless_lawful}
 
 -- nothing ranks before the lowest golden flit
 pub bless_leads : (h : Handing) (s : Port) (f : Flit) → Best h s f → (w : Port) → at h.wishes s ≡ Some w → (bless_turn h).to s ≡ w
@@ -69,7 +70,7 @@ carry h k there r s f F b =
 -- numbers and slots of golden flits as one number
 sinks : (m n : ℕ) (r s : Port) → Lower (golden_at m r) (golden_at n s) → m * 4 + place_of r < n * 4 + place_of s
 sinks m n r s (inl l) = absurd (omega arith)
-sinks m n r s (inr (e, inl l)) = omega (arith, place_small r)
+sinks m n r s (inr (e, inl l)) = omega (arith, place_below r)
 sinks m n r s (inr (e, inr (d, inl l))) = omega (arith, d)
 sinks m n r s (inr (e, inr (d, inr x))) = absurd x.1
 

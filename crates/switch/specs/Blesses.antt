@@ -1,10 +1,12 @@
 -- The bless switch: in the order of their rank, each takes its wish if that is free, or else the first free port of E, W, N, S.
 use Rattle.std.specs.Prelude.{◌≡◌, ℕ, zero, suc, ◌+◌, ◌<◌, Bool, true, false, cond, not, ◌&&◌, ◌||◌, ◌⊎◌, List, [], ◌∷◌, Some, None, Option, ◌==◌, nat_lt, refl}
 use Rattle.std.proofs.Common.{◌∙◌, ap, arith}
+use Rattle.std.specs.Option.{unwrap_or}
 use Rattle.fabric.specs.declared.parts.Port.{Port}
 use Rattle.fabric.specs.declared.parts.Port.TheVariants.{N, E, S, W}
 use Rattle.fabric.specs.declared.parts.Flit.{Flit}
-use Rattle.fabric.specs.Ports.{place_of}
+use Rattle.fabric.specs.Ports.{place_of, looked_at, first}
+use Rattle.fabric.specs.Places.{Pick, pick}
 use Rattle.switch.specs.declared.rank.Rank.{Rank}
 use Rattle.switch.specs.declared.rank.Rank.TheVariants.{Golden, Ordinary}
 use Rattle.switch.specs.Ranks.{rank_of, rank_at, gives_way}
@@ -40,13 +42,6 @@ pub record Before (h : Handing) (r s : Port) : Type 0 where
 -- a flit that ranks before the one in slot s leaves by port p
 abbrev pub Taken : Handing → (Port → Port) → Port → Port → Type 0
 Taken h to s p = (r : Port) × Before h r s × (to r ≡ p)
-
--- the order in which a flit that does not leave by its wish looks for a port
-abbrev pub looked_at : Port → ℕ
-looked_at E = 0
-looked_at W = 1
-looked_at N = 2
-looked_at S = 3
 
 -- The flit leaves by its wish unless that is taken by a flit before it. Where the wish is taken, and where there is none,
 -- it leaves by the first port of E, W, N, S that no flit before it takes.
@@ -86,7 +81,7 @@ best golden places waiting =
     more (more (more N E) S) W
 
 abbrev pub first_free : Sides → Port
-first_free free = cond (free E) E (cond (free W) W (cond (free N) N S))
+first_free free = unwrap_or (first free) S
 
 -- the port that is taken, by one with this wish
 abbrev pub chosen : Sides → Option Port → Port
@@ -126,20 +121,21 @@ module _ (xs : Sides) where
       ∙ ap (λ b. b || xs W) (kept (more N E) S ∙ ap (λ b. b || xs S) (kept N E))
       ∙ some_of (xs N) (xs E) (xs S) (xs W) h
 
-  first_of : (e w n s : Bool) → xs E ≡ e → xs W ≡ w → xs N ≡ n → xs S ≡ s → 0 < bit n + bit e + bit s + bit w → xs (cond e E (cond w W (cond n N S))) ≡ true
-  first_of true w n s pe pw pn ps h = pe
-  first_of false true n s pe pw pn ps h = pw
-  first_of false false true s pe pw pn ps h = pn
-  first_of false false false true pe pw pn ps h = ps
-  first_of false false false false pe pw pn ps h = absurd (omega arith)
+  -- if any is free, the first free one is free, and none before it
+  pub first_frees : 0 < size xs → (xs (first_free xs) ≡ true) × ((q : Port) → looked_at q < looked_at (first_free xs) → xs q ≡ false)
+  first_frees h = go (first xs) (pick xs)
+    where
+      go : (o : Option Port) → Pick xs o → (xs (unwrap_or o S) ≡ true) × ((q : Port) → looked_at q < looked_at (unwrap_or o S) → xs q ≡ false)
+      go (Some p) e = e
+      go None e = absurd (omega (arith, ap bit (e N), ap bit (e E), ap bit (e S), ap bit (e W)))
 
   pub chosen_free : (wish : Option Port) → 0 < size xs → xs (chosen xs wish) ≡ true
-  chosen_free None h = first_of (xs E) (xs W) (xs N) (xs S) refl refl refl refl h
+  chosen_free None h = (first_frees h).0
   chosen_free (Some w) h = go (xs w) refl
     where
       go : (b : Bool) → xs w ≡ b → xs (cond b w (first_free xs)) ≡ true
       go true e = e
-      go false e = first_of (xs E) (xs W) (xs N) (xs S) refl refl refl refl h
+      go false e = (first_frees h).0
 
 -- each is served once, and takes a port of its own
 module _ (golden : ℕ) (places : List (Option Flit)) (wishes : List (Option Port)) where

@@ -4,13 +4,13 @@ use Rattle.std.proofs.Common.{◌∙◌, ap}
 use Rattle.fabric.specs.declared.parts.Port.{Port}
 use Rattle.fabric.specs.declared.parts.Port.TheVariants.{N, E, S, W}
 use Rattle.fabric.specs.declared.parts.Flit.{Flit}
+use Rattle.fabric.specs.Ports.{same}
 use Rattle.switch.specs.declared.rank.Rank.{Rank}
 use Rattle.switch.specs.declared.rank.Rank.TheVariants.{Ordinary}
 use Rattle.switch.specs.declared.chipper.Lane.{Lane}
 use Rattle.switch.specs.declared.chipper.Block.{Block}
 use Rattle.switch.specs.declared.chipper.Block.TheVariants.{Entry, NorthSouth, EastWest}
 use Rattle.switch.specs.Ranks.{rank_at, Outranks, gives_way}
-use Rattle.switch.specs.Sides.{same}
 use Rattle.switch.specs.Switches.{Handing, Turn, at}
 
 -- the ports to which a block's first output leads, and those of the second

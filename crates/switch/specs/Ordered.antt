@@ -7,29 +7,15 @@ use Rattle.std.proofs.lemmas.Bool.Decides.{eqb_tells}
 use Rattle.fabric.specs.declared.parts.Port.{Port}
 use Rattle.fabric.specs.declared.parts.Port.TheVariants.{N, E, S, W}
 use Rattle.fabric.specs.declared.parts.Flit.{Flit}
-use Rattle.fabric.specs.Ports.{place_of}
+use Rattle.fabric.specs.Ports.{place_of, same, looked_at}
+use Rattle.fabric.specs.Places.{same_self, same_or_not}
 use Rattle.switch.specs.declared.rank.Rank.{Rank}
 use Rattle.switch.specs.declared.rank.Rank.TheVariants.{Golden, Ordinary}
 use Rattle.switch.specs.Ranks.{rank_of, gives_way}
 use Rattle.switch.specs.Switches.{Handing, at}
-use Rattle.switch.specs.Sides.{Sides, every, same, without, size, same_self, same_true, without_has, none_left, one_less}
+use Rattle.switch.specs.Sides.{Sides, every, without, size, without_has, none_left, one_less}
 use Rattle.switch.specs.Pairings.{look}
-use Rattle.switch.specs.Blesses.{standing_as, standing, Lower, Before, looked_at, Leaves, BlessLaw, sooner, outranked, better, best, first_free, chosen, best_waits, chosen_free, served, bless_turn}
-
--- Sides.
-
-pub place_small : (q : Port) → place_of q < 4
-place_small N = omega arith
-place_small E = omega arith
-place_small S = omega arith
-place_small W = omega arith
-
-pub same_or_not : (p q : Port) → (p ≡ q) ⊎ ((same p q ≡ false) × (p ≢ q))
-same_or_not p q = go (same p q) refl
-  where
-    go : (b : Bool) → same p q ≡ b → (p ≡ q) ⊎ ((same p q ≡ false) × (p ≢ q))
-    go true e = inl (same_true p q e)
-    go false e = inr (e, λ r. false≢true (sym e ∙ subst (λ x. same p x ≡ true) r (same_self p)))
+use Rattle.switch.specs.Blesses.{standing_as, standing, Lower, Before, Leaves, BlessLaw, sooner, outranked, better, best, first_free, first_frees, chosen, best_waits, chosen_free, served, bless_turn}
 
 -- The order of flits.
 
@@ -178,18 +164,6 @@ module _ (f : Sides) where
       go true = refl
       go false = e
 
-  first_first : (e w n : Bool) → f E ≡ e → f W ≡ w → f N ≡ n → (q : Port) → looked_at q < looked_at (cond e E (cond w W (cond n N S))) → f q ≡ false
-  first_first true w n pe pw pn q l = absurd (omega arith)
-  first_first false w n pe pw pn E l = pe
-  first_first false true n pe pw pn N l = absurd (omega arith)
-  first_first false true n pe pw pn S l = absurd (omega arith)
-  first_first false true n pe pw pn W l = absurd (omega arith)
-  first_first false false n pe pw pn W l = pw
-  first_first false false true pe pw pn N l = absurd (omega arith)
-  first_first false false true pe pw pn S l = absurd (omega arith)
-  first_first false false false pe pw pn N l = pn
-  first_first false false false pe pw pn S l = absurd (omega arith)
-
   chosen_wish : (w : Port) → (f w ≢ false) → chosen f (Some w) ≡ w
   chosen_wish w unfree = go (f w) refl
     where
@@ -205,7 +179,7 @@ module _ (f : Sides) where
   chosen_leaves wish some = record {
     wished = λ w e no. ap (chosen f) e ∙ chosen_wish w no;
     free = λ all no. true≢false (sym (chosen_free f wish some) ∙ no);
-    first = λ all q l. first_first (f E) (f W) (f N) refl refl refl q (subst (λ x. looked_at q < looked_at x) (chosen_else wish all) l);
+    first = λ all q l. (first_frees f some).1 q (subst (λ x. looked_at q < looked_at x) (chosen_else wish all) l);
   }
 
 -- The law, of the slots that wait and the ports that are free.

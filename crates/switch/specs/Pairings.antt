@@ -2,8 +2,10 @@
 use Rattle.std.specs.Prelude.{◌≡◌, Bool, true, false, cond, List, [], ◌∷◌, refl}
 use Rattle.std.proofs.Common.{sym, ◌∙◌, ap, subst, true≢false}
 use Rattle.fabric.specs.declared.parts.Port.{Port}
+use Rattle.fabric.specs.Ports.{same}
+use Rattle.fabric.specs.Places.{same_true, same_self}
 use Rattle.switch.specs.Switches.{Turn}
-use Rattle.switch.specs.Sides.{Sides, every, same, without, same_true, same_self, without_has}
+use Rattle.switch.specs.Sides.{Sides, every, without, without_has}
 
 abbrev pub Pairs : Type 0
 Pairs = List (Port × Port)

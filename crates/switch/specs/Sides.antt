@@ -1,10 +1,10 @@
 -- Sets of slots or ports.
-use Rattle.std.specs.Prelude.{◌≡◌, ℕ, zero, suc, ◌+◌, Bool, true, false, cond, List, ◌==◌, slice_index_or, refl}
-use Rattle.std.proofs.Common.{sym, ◌∙◌, ap, arith, eqb-true}
+use Rattle.std.specs.Prelude.{◌≡◌, ℕ, suc, ◌+◌, Bool, true, false, cond, List, slice_index_or, refl}
+use Rattle.std.proofs.Common.{ap, arith}
 use Rattle.std.proofs.lemmas.Bool.{false≢true}
 use Rattle.fabric.specs.declared.parts.Port.{Port}
 use Rattle.fabric.specs.declared.parts.Port.TheVariants.{N, E, S, W}
-use Rattle.fabric.specs.Ports.{place_of}
+use Rattle.fabric.specs.Ports.{place_of, same}
 
 abbrev pub Sides : Type 0
 Sides = Port → Bool
@@ -16,9 +16,6 @@ every p = true
 abbrev pub held : List Bool → Sides
 held xs p = slice_index_or xs (place_of p) false
 
-abbrev pub same : Port → Port → Bool
-same p q = place_of p == place_of q
-
 abbrev pub without : Sides → Port → Sides
 without xs q p = cond (same p q) false (xs p)
 
@@ -28,27 +25,6 @@ bit false = 0
 
 abbrev pub size : Sides → ℕ
 size xs = bit (xs N) + bit (xs E) + bit (xs S) + bit (xs W)
-
-abbrev port_at : ℕ → Port
-port_at zero = N
-port_at (suc zero) = E
-port_at (suc (suc zero)) = S
-port_at (suc (suc (suc n))) = W
-
-at_place : (p : Port) → port_at (place_of p) ≡ p
-at_place N = refl
-at_place E = refl
-at_place S = refl
-at_place W = refl
-
-pub same_true : (p q : Port) → same p q ≡ true → p ≡ q
-same_true p q e = sym (at_place p) ∙ ap port_at (eqb-true (place_of p) (place_of q) e) ∙ at_place q
-
-pub same_self : (p : Port) → same p p ≡ true
-same_self N = refl
-same_self E = refl
-same_self S = refl
-same_self W = refl
 
 pub without_has : (xs : Sides) (q p : Port) → without xs q p ≡ true → (same p q ≡ false) × (xs p ≡ true)
 without_has xs q p = go (same p q)

@@ -1,6 +1,6 @@
 // Values join a batch at the end, and leave it at the front.
-ghost use Rattle.std.specs.Prelude.{⊤, ◌≡◌, ◌≤◌, [], length, drop};
-ghost use Rattle.batch.specs.Items.{items, first_of, joined, put_answer};
+ghost use Rattle.std.specs.Prelude.{⊤, ◌≡◌, ◌≤◌, [], length, drop, slice_get};
+ghost use Rattle.batch.specs.Items.{items, joined, put_answer};
 
 use super::Batch;
 use std::alloc::AllocError;
@@ -54,14 +54,14 @@ impl<T: Copy, const N: usize> Batch<T, N> {
     }
 
     pub fn first(&self) -> Option<T>
-        ensures { result ≡ first_of (items self.now) }
+        ensures { result ≡ slice_get (items self.now) 0 }
     {
         self.as_slice().first().copied()
     }
 
     // Takes out the first value; the others move up.
     pub fn remove_first(&mut self) -> Option<T>
-        ensures answer { result ≡ first_of (items self.old) }
+        ensures answer { result ≡ slice_get (items self.old) 0 }
         ensures held { items self.new ≡ drop 1 (items self.old) }
     {
         let first = self.first()?;

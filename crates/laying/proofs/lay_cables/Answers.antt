@@ -1,29 +1,22 @@
 use Rattle.std.proofs.Common.{ℕ, refl, ap, ◌∙◌}
 use Rattle.fabric.specs.Refusals.{number, numbered}
-use Rattle.cabled.specs.declared.cabled.Cabled.{Cabled}
-use Rattle.cabled.specs.Laws.{lawful}
-use Rattle.cabled.specs.Plans.{plan_of}
-use Rattle.fabric.specs.Layouts.{Lawful}
+use Rattle.cabled.specs.Plans.{lawful_of}
 use Rattle.text.specs.declared.fault.Layer.TheVariants.{Layout}
 use Rattle.laying.specs.Layings.{layout_line}
 use Rattle.laying.specs.Reports.Report.{faults}
 use Rattle.laying.proofs.Laying.{as_plans, named_below}
 use Rattle.laying.proofs.lay_cables.Goals as goal
 
--- a cabled layout keeps the law of its trait
-law : (x : Cabled) → Lawful (plan_of x)
-law x = lawful x.wiring.nodes x.wiring.ends x.spans.distances x.spans.reach x.wiring.paired x.nearing (x.wiring.fair.0, x.wiring.fair.1, x.spans.near) x.within
-
 pub line_of-requires : goal.line_of-requires
 line_of-requires c = named_below c.in-Err.ensures
 
 pub returns-in-Ok-clause-laid : goal.returns-in-Ok-clause-laid
-returns-in-Ok-clause-laid c = (_, law c.cable.new.self, _, as_plans _ c.new-layout.ensures.plan c.in-Ok.ensures, refl)
+returns-in-Ok-clause-laid c = (_, lawful_of c.cable.new.self, _, as_plans _ c.new-layout.ensures.plan c.in-Ok.ensures, refl)
 
 pub returns-in-Err-clause-laid : goal.returns-in-Err-clause-laid
 returns-in-Err-clause-laid c = (
   _,
-  law c.cable.new.self,
+  lawful_of c.cable.new.self,
   _,
   as_plans _ c.new-layout.ensures.plan c.in-Err.ensures,
   ap (λ (k : ℕ). faults (number c.in-Err.refusal, Layout, k)) c.line_of.ensures,

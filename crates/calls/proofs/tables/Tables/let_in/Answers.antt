@@ -1,6 +1,7 @@
 use Rattle.std.proofs.Common.{◌≡◌, [], Some, None, get_or, drop, sym, refl, ap, ◌∙◌, rules, arith}
 use Rattle.std.proofs.lemmas.List.{get_or-map, length-map}
-use Rattle.batch.specs.Items.{items, first_of}
+use Rattle.std.specs.Prelude.{slice_get}
+use Rattle.batch.specs.Items.{items}
 use Rattle.calls.specs.Records.{line_at}
 use Rattle.calls.proofs.Recording.{head_some, head_empty, let_go, one_line}
 use Rattle.calls.proofs.tables.Tables.let_in.Goals as goal
@@ -11,7 +12,7 @@ returns-then-packet c =
     let xs = line_at i c.args.node in
     let u = c.in_ok-ticket.ticket in
     let long = length-map i.waits items in
-    let first : Some u ≡ first_of xs = sym c.in_ok-ticket.was ∙ c.first.ensures ∙ ap first_of (sym (get_or-map items i.waits c.args.node _ [] (omega arith))) in
+    let first : Some u ≡ slice_get xs 0 = sym c.in_ok-ticket.was ∙ c.first.ensures ∙ ap (λ ys. slice_get ys 0) (sym (get_or-map items i.waits c.args.node _ [] (omega arith))) in
     let there : get_or i.tickets c.from-t.result None ≡ Some c.in-Some.packet = search rules in
     record {
       keeps = record { settings = refl; cycles = refl; register = refl; slots = refl };
@@ -28,7 +29,7 @@ returns-else-packet c =
     let xs = line_at i c.args.node in
     let u = c.in_ok-ticket.ticket in
     let long = length-map i.waits items in
-    let first : Some u ≡ first_of xs = sym c.in_ok-ticket.was ∙ c.first.ensures ∙ ap first_of (sym (get_or-map items i.waits c.args.node _ [] (omega arith))) in
+    let first : Some u ≡ slice_get xs 0 = sym c.in_ok-ticket.was ∙ c.first.ensures ∙ ap (λ ys. slice_get ys 0) (sym (get_or-map items i.waits c.args.node _ [] (omega arith))) in
     let there : get_or i.tickets c.from-t.result None ≡ Some c.in-Some.packet = search rules in
     record {
       keeps = record { settings = refl; cycles = refl; register = refl; slots = refl };

@@ -1,43 +1,20 @@
-use Rattle.std.proofs.Common.{List, set, None, Option, sym, refl, ap, ◌∙◌, subst, arith}
-use Rattle.fabric.specs.declared.parts.Flit.{Flit}
+use Rattle.std.proofs.Common.{set, None, sym, ap, ◌∙◌, arith}
 use Rattle.fabric.specs.Ports.{place_of}
 use Rattle.switch.specs.Switches.{at}
 use Rattle.line.specs.Lines.{queue_of}
 use Rattle.network.specs.Computed.{best, due}
-use Rattle.calls.specs.Midway.{Took}
 use Rattle.calls.proofs.Stepping.{none_there, none_best}
-use Rattle.calls.proofs.Takes.{took_none, took_some, same_best}
+use Rattle.calls.proofs.Takes.{none_taken, took_some, same_best}
 use Rattle.calls.proofs.tables.Tables.take_off.Goals as goal
 
 pub returns-then-are_empty-clause-takes : goal.returns-then-are_empty-clause-takes
 returns-then-are_empty-clause-takes c =
-    let i = c.args.self.now in
-    let n = c.args.node in
-    let g = c.args.golden in
-    let q = queue_of c.args.line.now in
-    record {
-      keeps = record { settings = refl; cycles = refl; register = refl; slots = refl };
-      few = omega arith;
-      took = λ F s l law led h gold b room.
-          subst (λ (xs : List (Option Flit)). Took F i.settings s n l i q q xs 0) (sym c.places-places.ensures)
-          (took_none F i s l n g law led h gold b i q (record { settings = refl; cycles = refl; register = refl; slots = refl }) refl refl
-          (sym (same_best F i s l n g law led h gold b) ∙ ap (λ xs. best g (λ p. due n (at xs p))) (sym c.places-places.ensures) ∙ none_best g n c.places-places.result (none_there (at c.places-places.result) (sym c.are_empty.ensures ∙ c.if-are_empty.true))));
-    }
+    none_taken c.args.self.now c.args.node c.args.golden (queue_of c.args.line.now) c.places-places.result c.places-places.ensures
+    (none_best c.args.golden c.args.node c.places-places.result (none_there (at c.places-places.result) (sym c.are_empty.ensures ∙ c.if-are_empty.true)))
 
 pub returns-in-None-clause-takes : goal.returns-in-None-clause-takes
 returns-in-None-clause-takes c =
-    let i = c.args.self.now in
-    let n = c.args.node in
-    let g = c.args.golden in
-    let q = queue_of c.args.line.now in
-    record {
-      keeps = record { settings = refl; cycles = refl; register = refl; slots = refl };
-      few = omega arith;
-      took = λ F s l law led h gold b room.
-          subst (λ (xs : List (Option Flit)). Took F i.settings s n l i q q xs 0) (sym c.places-places.ensures)
-          (took_none F i s l n g law led h gold b i q (record { settings = refl; cycles = refl; register = refl; slots = refl }) refl refl
-          (sym (same_best F i s l n g law led h gold b) ∙ ap (λ xs. best g (λ p. due n (at xs p))) (sym c.places-places.ensures) ∙ sym c.in-None.ensures));
-    }
+    none_taken c.args.self.now c.args.node c.args.golden (queue_of c.args.line.now) c.places-places.result c.places-places.ensures (sym c.in-None.ensures)
 
 pub returns-in-Some-clause-takes : goal.returns-in-Some-clause-takes
 returns-in-Some-clause-takes c =

@@ -1,5 +1,6 @@
 use Rattle.std.proofs.Common.{◌≡◌, ◌-◌, ◌<◌, ◌∷◌, get_or, sym, ap, ◌∙◌, rules, arith}
-use Rattle.line.specs.Queues.{Queue, contents, first_of, place, take}
+use Rattle.std.specs.Prelude.{slice_get}
+use Rattle.line.specs.Queues.{Queue, contents, place, take}
 use Rattle.line.specs.Runs.Use.{takes}
 use Rattle.line.specs.Lines.{queue_of}
 use Rattle.line.proofs.Contents.{take_contents}
@@ -21,7 +22,7 @@ returns g c =
     let u = e ∙ sym (take_some q h) in
     let k = take_contents q s.sound x h ∙ ap (λ t. get_or q.memory q.first x ∷ contents t) (sym e) in
     record {
-      answer = sym (ap first_of k);
+      answer = sym (ap (λ xs. slice_get xs 0) k);
       queue = search rules;
       contents = k;
       runs = continues q takes r u;
