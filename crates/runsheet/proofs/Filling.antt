@@ -4,25 +4,25 @@ use Rattle.std.specs.List.{AllByRecursion}
 use Rattle.std.proofs.lemmas.List.{length-append, length-replicate, map-append}
 use Rattle.std.proofs.Permutation.{every_append}
 use Rattle.fabric.specs.declared.parts.Port.TheVariants.{N}
-use Rattle.fabric.specs.declared.parts.Cable.{Cable as Wire}
+use Rattle.fabric.specs.declared.parts.Cable.{Cable}
 use Rattle.text.specs.Texts.{Field, Fits}
 use Rattle.runsheet.specs.Said.{Said}
 use Rattle.text.proofs.Lists.{all_map}
 use Rattle.text.specs.Lines.{Sized, kind_line, packets_line, packet_line, Uncabled, shape_line, run_line, cables_line, cable_line}
 use Rattle.runsheet.specs.Sheets.{lines, Formed, Rising}
 use Rattle.runsheet.specs.Reading.{Draft, cabled_lines, all_lines, so_far, Stage, latest, Valid}
-use Rattle.text.specs.declared.parts.Packet.{Packet as Plan}
+use Rattle.text.specs.declared.parts.Packet.{Packet}
 use Rattle.runsheet.specs.declared.reader.Section.{Section}
 use Rattle.runsheet.specs.declared.reader.Section.TheVariants as section
 
 -- what fills the lists up
-abbrev spare_wire : Wire
+abbrev spare_wire : Cable
 spare_wire = record { one = record { node = 0; port = N }; other = record { node = 0; port = N } }
 
-abbrev spare_plan : ℕ → Plan
+abbrev spare_plan : ℕ → Packet
 spare_plan c = record { cycle = c; node = 0; own = 0; destination = 0; count = 1; words = 0 ∷ 0 ∷ 0 ∷ 0 ∷ [] }
 
-abbrev pub spare_wires : Draft → ℕ → List Wire
+abbrev pub spare_wires : Draft → ℕ → List Cable
 spare_wires d n = replicate (n - length d.cables) spare_wire
 
 no_words : (j : ℕ) → slice_index (0 ∷ 0 ∷ 0 ∷ 0 ∷ []) j ≡ 0
@@ -32,7 +32,7 @@ no_words (suc (suc zero)) = refl
 no_words (suc (suc (suc zero))) = refl
 no_words (suc (suc (suc (suc j)))) = refl
 
-abbrev pub spare_plans : Draft → ℕ → List Plan
+abbrev pub spare_plans : Draft → ℕ → List Packet
 spare_plans d m = replicate (m - length d.packets) (spare_plan d.last)
 
 -- n cables and m packets, of which the first were read
@@ -47,11 +47,11 @@ rising_spare : (c k : ℕ) → Rising c (replicate k (spare_plan c))
 rising_spare c zero = tt
 rising_spare c (suc k) = (omega arith, rising_spare c k)
 
-rising_filled : (c k : ℕ) (ps : List Plan) → Rising c ps → Rising c (ps ++ replicate k (spare_plan (latest c ps)))
+rising_filled : (c k : ℕ) (ps : List Packet) → Rising c ps → Rising c (ps ++ replicate k (spare_plan (latest c ps)))
 rising_filled c k [] r = rising_spare c k
 rising_filled c k (p ∷ ps) r = (r.0, rising_filled p.cycle k ps r.1)
 
-latest_fits : (c : ℕ) (ps : List Plan) → c < 2 ^ 32 → AllByRecursion (λ x. AllByRecursion Fits (packet_line x)) ps → latest c ps < 2 ^ 32
+latest_fits : (c : ℕ) (ps : List Packet) → c < 2 ^ 32 → AllByRecursion (λ x. AllByRecursion Fits (packet_line x)) ps → latest c ps < 2 ^ 32
 latest_fits c [] h a = h
 latest_fits c (p ∷ ps) h a = latest_fits p.cycle ps a.0.0 a.1
 

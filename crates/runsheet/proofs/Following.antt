@@ -4,14 +4,14 @@ use Rattle.std.specs.List.{AllByRecursion}
 use Rattle.std.proofs.lemmas.List.{length-append, length-map, get_or-drop, get_or_append_left, get_or-append_right, get_or-map, get_or_at}
 use Rattle.std.proofs.Permutation.{every_at}
 use Rattle.fabric.specs.declared.parts.Port.TheVariants.{N}
-use Rattle.fabric.specs.declared.parts.Cable.{Cable as Wire}
+use Rattle.fabric.specs.declared.parts.Cable.{Cable}
 use Rattle.text.specs.Texts.{Field, Fits, row, Any}
 use Rattle.text.specs.declared.parts.Shape.{Shape}
 use Rattle.runsheet.specs.Said.{Said}
 use Rattle.text.specs.Lines.{Sized, kind_line, packets_line, packet_line, Uncabled, shape_line, run_line, cables_line, cable_line}
 use Rattle.runsheet.specs.Sheets.{lines, Formed, Rising}
 use Rattle.runsheet.specs.Reading.{Draft, entry_line, Suits, cabled_lines, all_lines, so_far, Stage, latest, Valid}
-use Rattle.text.specs.declared.parts.Packet.{Packet as Plan}
+use Rattle.text.specs.declared.parts.Packet.{Packet}
 use Rattle.runsheet.specs.declared.reader.Section.{Section}
 use Rattle.runsheet.specs.declared.reader.Section.TheVariants as section
 use Rattle.runsheet.specs.declared.reader.Entry.{Entry}
@@ -23,10 +23,10 @@ use Rattle.text.proofs.Lists.{all_map_at}
 use Rattle.text.proofs.Aligned.{Agree}
 use Rattle.runsheet.proofs.Moves.{length_cabled, length_all}
 
-no_wire : Wire
+no_wire : Cable
 no_wire = record { one = record { node = 0; port = N }; other = record { node = 0; port = N } }
 
-no_plan : Plan
+no_plan : Packet
 no_plan = record { cycle = 0; node = 0; own = 0; destination = 0; count = 0; words = [] }
 
 pub length_lines : (s : Said) → length (lines s) ≡ 5 + length s.cables + length s.packets
@@ -37,11 +37,11 @@ length_lines s =
     omega arith
 
 -- four lines, cables, a count and packets
-abbrev table : List Field → List Field → List Field → List Field → List Wire → ℕ → List Plan → List (List Field)
+abbrev table : List Field → List Field → List Field → List Field → List Cable → ℕ → List Packet → List (List Field)
 table a b c e cs m qs = a ∷ b ∷ c ∷ e ∷ (map cable_line cs ++ packets_line m ∷ map packet_line qs)
 
 -- its lines by their index
-module _ (a b c e : List Field) (cs : List Wire) (m : ℕ) (qs : List Plan) where
+module _ (a b c e : List Field) (cs : List Cable) (m : ℕ) (qs : List Packet) where
   line_cable : (i : ℕ) → i < length cs → get_or (table a b c e cs m qs) (4 + i) [] ≡ cable_line (get_or cs i no_wire)
   line_cable i l =
       sym (get_or-drop 4 (table a b c e cs m qs) i [])
@@ -62,7 +62,7 @@ module _ (a b c e : List Field) (cs : List Wire) (m : ℕ) (qs : List Plan) wher
       ∙ get_or-map packet_line qs i no_plan [] l
 
 -- packets that agree in their cycles are due no later than the next one
-latest_le : (c : ℕ) (ps qs : List Plan) → Rising c qs → length ps < length qs → ((j : ℕ) → j < length ps → (get_or ps j no_plan).cycle ≡ (get_or qs j no_plan).cycle) → latest c ps ≤ (get_or qs (length ps) no_plan).cycle
+latest_le : (c : ℕ) (ps qs : List Packet) → Rising c qs → length ps < length qs → ((j : ℕ) → j < length ps → (get_or ps j no_plan).cycle ≡ (get_or qs j no_plan).cycle) → latest c ps ≤ (get_or qs (length ps) no_plan).cycle
 latest_le c [] [] r l h = absurd (let z : ⊥ = omega arith in z)
 latest_le c [] (q ∷ qs) r l h = r.0
 latest_le c (p ∷ ps) [] r l h = absurd (let z : ⊥ = omega arith in z)
@@ -127,7 +127,7 @@ module _ (d : Draft) (c p : ℕ) (s : Said) (v : Valid d) (F : Formed c p s) whe
       let i = length d.packets in
       let l : i < length s.packets = omega (arith, st.1) in
       let like : (j : ℕ) → j < i → (get_or d.packets j no_plan).cycle ≡ (get_or s.packets j no_plan).cycle =
-      λ j k. ap (λ (x : Plan). x.cycle) (same_row packet_line Sized tell_packet tidy_packet (get_or d.packets j no_plan) (get_or s.packets j no_plan)
+      λ j k. ap (λ (x : Packet). x.cycle) (same_row packet_line Sized tell_packet tidy_packet (get_or d.packets j no_plan) (get_or s.packets j no_plan)
       (every_at (λ x. AllByRecursion Fits (packet_line x)) d.packets j no_plan k v.packets) (fits_of j (omega arith))
       (every_at Sized d.packets j no_plan k v.sized) (every_at Sized s.packets j no_plan (omega arith) F.sized)
       (ap row (sym (read_packet j k)) ∙ a (5 + length d.cables + j) (omega (arith, length_all d)) ∙ ap row (sheet_packet (length d.cables) j w (omega arith)))) in

@@ -10,7 +10,7 @@ use Rattle.text.specs.Texts.{Fits}
 use Rattle.text.specs.Lines.{Sized, packets_line, packet_line, cable_line}
 use Rattle.runsheet.specs.Sheets.{Rising}
 use Rattle.runsheet.specs.Reading.{Draft, Suits, cabled_lines, all_lines, so_far, Stage, latest, Valid, Grown, after}
-use Rattle.text.specs.declared.parts.Packet.{Packet as Plan}
+use Rattle.text.specs.declared.parts.Packet.{Packet}
 use Rattle.runsheet.specs.declared.reader.Section.{Section}
 use Rattle.runsheet.specs.declared.reader.Section.TheVariants as section
 use Rattle.runsheet.specs.declared.reader.Entry.{Entry}
@@ -52,19 +52,19 @@ few_packets section.End d h = omega (arith, h.1)
 goes : (P : Section → Type 0) (n m : ℕ) (s t : Section) → (n < m → P s) → (m ≤ n → P t) → P (after n m s t)
 goes P n m s t f g = cond_both (ltb n m) s t P (λ e. f (ltb-true n m e)) (λ e. g (ltb-false n m e))
 
-rising_push : (c : ℕ) (ps : List Plan) (x : Plan) → Rising c ps → latest c ps ≤ x.cycle → Rising c (ps ++ x ∷ [])
+rising_push : (c : ℕ) (ps : List Packet) (x : Packet) → Rising c ps → latest c ps ≤ x.cycle → Rising c (ps ++ x ∷ [])
 rising_push c [] x r h = (h, tt)
 rising_push c (p ∷ ps) x r h = (r.0, rising_push p.cycle ps x r.1 h)
 
-latest_push : (c : ℕ) (ps : List Plan) (x : Plan) → latest c (ps ++ x ∷ []) ≡ x.cycle
+latest_push : (c : ℕ) (ps : List Packet) (x : Packet) → latest c (ps ++ x ∷ []) ≡ x.cycle
 latest_push c [] x = refl
 latest_push c (p ∷ ps) x = latest_push p.cycle ps x
 
 -- with a packet more
-abbrev pub planned_by : Draft → List Plan → ℕ → Section → Draft
+abbrev pub planned_by : Draft → List Packet → ℕ → Section → Draft
 planned_by d ps c s = record { section = s; shape = d.shape; kind = d.kind; run = d.run; wires = d.wires; cables = d.cables; plans = d.plans; packets = ps; last = c }
 
-module _ (d : Draft) (x : Plan) (v : Valid d) (u : Suits d (entry.Packet x)) (f : AllByRecursion Fits (packet_line x)) where
+module _ (d : Draft) (x : Packet) (v : Valid d) (u : Suits d (entry.Packet x)) (f : AllByRecursion Fits (packet_line x)) where
   planned_to : (s : Section) → so_far s (planned_by d (d.packets ++ x ∷ []) x.cycle s) ≡ all_lines (planned_by d (d.packets ++ x ∷ []) x.cycle s) → Stage s (planned_by d (d.packets ++ x ∷ []) x.cycle s) → Grown d (entry.Packet x) (planned_by d (d.packets ++ x ∷ []) x.cycle s)
   planned_to s far st =
       record {
@@ -100,10 +100,10 @@ module _ (d : Draft) (x : Plan) (v : Valid d) (u : Suits d (entry.Packet x)) (f 
 
 -- with a packet that its batch takes
 module _ (d : Draft) (v : Valid d) where
-  pub packet_room : (x : Plan) → Suits d (entry.Packet x) → length d.packets < 256
+  pub packet_room : (x : Packet) → Suits d (entry.Packet x) → length d.packets < 256
   packet_room x u = let at : Stage section.Packet d = subst (λ y. Stage y d) u.0 v.stage in omega (arith, at.1, v.plans)
 
-  pub put_packet : (x : Plan) (ps : List Plan) → ps ≡ joined 256 d.packets x → Suits d (entry.Packet x) → AllByRecursion Fits (packet_line x) → Grown d (entry.Packet x) (planned_by d ps x.cycle (after (length ps) d.plans section.Packet section.End))
+  pub put_packet : (x : Packet) (ps : List Packet) → ps ≡ joined 256 d.packets x → Suits d (entry.Packet x) → AllByRecursion Fits (packet_line x) → Grown d (entry.Packet x) (planned_by d ps x.cycle (after (length ps) d.plans section.Packet section.End))
   put_packet x ps h u f =
       subst (λ ys. Grown d (entry.Packet x) (planned_by d ys x.cycle (after (length ys) d.plans section.Packet section.End))) (sym (h ∙ joined_room 256 d.packets x (packet_room x u)))
       (moved_packet d x v u f _ (length_push d.packets x))

@@ -3,7 +3,7 @@ use Rattle.std.proofs.Common.{◌≡◌, ℕ, ◌+◌, ◌^◌, ◌<◌, ◌≤�
 use Rattle.std.specs.List.{AllByRecursion}
 use Rattle.std.proofs.lemmas.List.{length-append, length_push}
 use Rattle.std.proofs.Permutation.{every_at}
-use Rattle.fabric.specs.declared.parts.Cable.{Cable as Wire}
+use Rattle.fabric.specs.declared.parts.Cable.{Cable}
 use Rattle.text.specs.Texts.{Field, Fits, Free, Lined, row, written, text, Barred, Any}
 use Rattle.runsheet.specs.Said.{Said}
 use Rattle.text.specs.Lines.{packets_line, packet_line, kind_line, cables_line, cable_line, shape_line, run_line}
@@ -11,7 +11,7 @@ use Rattle.runsheet.specs.Sheets.{lines, Formed, SheetText, Refused}
 use Rattle.text.specs.Faults.{told, ill_formed, too_many, GoesOn, Stops}
 use Rattle.runsheet.specs.Reading.{Draft, entry_line, Suits, Exceeds, cabled_lines, so_far, lines_read, Stage, Valid, Refuses}
 use Rattle.text.specs.declared.fault.Fault.{Fault}
-use Rattle.text.specs.declared.parts.Packet.{Packet as Plan}
+use Rattle.text.specs.declared.parts.Packet.{Packet}
 use Rattle.runsheet.specs.declared.reader.Section.TheVariants as section
 use Rattle.runsheet.specs.declared.reader.Entry.{Entry}
 use Rattle.runsheet.specs.declared.reader.Entry.TheVariants as entry
@@ -170,7 +170,7 @@ module _ (d : Draft) (bs rest : List ℕ) (v : Valid d) (o : bs ≡ text (lines_
 abbrev pub sheet_of : Draft → Said
 sheet_of d = record { shape = d.shape; kind = d.kind; run = d.run; cables = d.cables; packets = d.packets }
 
-abbrev with_lists : Draft → List Wire → List Plan → Said
+abbrev with_lists : Draft → List Cable → List Packet → Said
 with_lists d cs ps = record { shape = d.shape; kind = d.kind; run = d.run; cables = cs; packets = ps }
 
 full : (d : Draft) → Stage section.End d → fill d d.wires d.plans ≡ sheet_of d

@@ -2,7 +2,7 @@
 use Rattle.std.specs.Prelude.{◌≡◌, ℕ, ◌<◌, ◌≤◌, cond, ◌⊎◌, List, [], ◌∷◌, ◌++◌, map, length, Result, MatchResult, nat_lt}
 use Rattle.std.specs.List.{AllByRecursion}
 use Rattle.batch.specs.Items.{items}
-use Rattle.fabric.specs.declared.parts.Cable.{Cable as Wire}
+use Rattle.fabric.specs.declared.parts.Cable.{Cable}
 use Rattle.text.specs.Texts.{Field, Fits, shown, Any}
 use Rattle.text.specs.Fields.{Unlike}
 use Rattle.text.specs.Faults.{told, ill_formed, too_many}
@@ -11,8 +11,8 @@ use Rattle.runsheet.specs.Sheets.{Rising}
 use Rattle.text.specs.declared.fault.Fault.{Fault}
 use Rattle.text.specs.declared.parts.Shape.{Shape}
 use Rattle.text.specs.declared.parts.SwitchKind.{SwitchKind}
-use Rattle.text.specs.declared.parts.Run.{Run as Settings}
-use Rattle.text.specs.declared.parts.Packet.{Packet as Plan}
+use Rattle.text.specs.declared.parts.Run.{Run}
+use Rattle.text.specs.declared.parts.Packet.{Packet}
 use Rattle.runsheet.specs.declared.reader.Section.{Section}
 use Rattle.runsheet.specs.declared.reader.Section.TheVariants as section
 use Rattle.runsheet.specs.declared.reader.Entry.{Entry}
@@ -33,11 +33,11 @@ pub record Draft : Type 0 where
   pub section : Section
   pub shape : Shape
   pub kind : SwitchKind
-  pub run : Settings
+  pub run : Run
   pub wires : ℕ
-  pub cables : List Wire
+  pub cables : List Cable
   pub plans : ℕ
-  pub packets : List Plan
+  pub packets : List Packet
   pub last : ℕ
 
 abbrev pub draft : Reader → Draft
@@ -137,7 +137,7 @@ Stage section.Packet d = (length d.cables ≡ d.wires) × (length d.packets < d.
 Stage section.End d = (length d.cables ≡ d.wires) × (length d.packets ≡ d.plans)
 
 -- the cycle of the last packet, c where there is none
-abbrev pub latest : ℕ → List Plan → ℕ
+abbrev pub latest : ℕ → List Packet → ℕ
 latest c [] = c
 latest c (p ∷ ps) = latest p.cycle ps
 

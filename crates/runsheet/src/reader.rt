@@ -190,13 +190,13 @@ pub fn read(bytes: &[u8]) -> Result<Sheet, Fault>
         reader.step(&lines.next_line()?)?;
     }
     match reader.section {
-        Section::End => Ok(Sheet::new(
-            reader.shape,
-            reader.kind,
-            reader.run,
-            reader.cables,
-            reader.packets,
-        )),
+        Section::End => Ok(Sheet {
+            shape: reader.shape,
+            kind: reader.kind,
+            run: reader.run,
+            cables: reader.cables,
+            packets: reader.packets,
+        }),
         _ => Err(lines.fault()),
     }
 }

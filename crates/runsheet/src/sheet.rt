@@ -11,6 +11,6 @@ pub struct Sheet {
     pub shape: Shape,
     pub kind: SwitchKind,
     pub run: Run,
-    cables: Batch<Cable, MOST_CABLES>,
-    packets: Batch<Packet, MOST_PACKETS>,
+    pub(crate) cables: Batch<Cable, MOST_CABLES>,
+    pub(crate) packets: Batch<Packet, MOST_PACKETS>,
 }

@@ -1,4 +1,4 @@
-use Rattle.std.proofs.Common.{◌+◌, length, sym, ap, subst, ◌∙◌}
+use Rattle.std.proofs.Common.{◌+◌, length, sym, refl, ap, subst, ◌∙◌}
 use Rattle.std.proofs.lemmas.Bool.{false≢true}
 use Rattle.std.proofs.lemmas.List.{length_push}
 use Rattle.text.specs.Fields.{words}
@@ -47,7 +47,7 @@ returns-in_default-clause-read c =
 pub returns-in-End-clause-read : goal.returns-in-End-clause-read
 returns-in-End-clause-read c =
     let i = c.loop-reader.invariant in
-    finished (draft c.loop-reader.reader) c.args.bytes.now c.loop-reader.lines.rest.now _ i.0 i.1 c.in-End.is (c.is_empty.ensures.0 c.loop-reader-test.false) c.in_ok-lines.ensures.0 c.new-in-End.ensures
+    finished (draft c.loop-reader.reader) c.args.bytes.now c.loop-reader.lines.rest.now _ i.0 i.1 c.in-End.is (c.is_empty.ensures.0 c.loop-reader-test.false) c.in_ok-lines.ensures.0 refl
 
 pub returns-in_err-lines-clause-only : goal.returns-in_err-lines-clause-only
 returns-in_err-lines-clause-only c = one_sheet c.args.bytes.now
