@@ -1,14 +1,13 @@
 -- The rounds find the fewest steps.
-use Rattle.std.proofs.Common.{◌≡◌, ℕ, zero, suc, ◌+◌, ◌<◌, ◌≤◌, Bool, true, false, ◌⊎◌, List, [], ◌∷◌, get_or, set, replicate, Some, None, Option, unwrap_or, sym, refl, ap, ◌∙◌, subst, inl, inr, ⊎_elim, add-one, arith, eqb, length}
+use Rattle.std.proofs.Common.{◌≡◌, ℕ, zero, suc, ◌+◌, ◌<◌, ◌≤◌, Bool, true, false, ◌⊎◌, List, [], ◌∷◌, get_or, set, replicate, Some, None, Option, unwrap_or, sym, refl, ap, ◌∙◌, subst, inl, inr, ⊎_elim, add-one, arith}
 use Rattle.std.proofs.lemmas.List.{get_or-set_same, get_or-set_other, get_or-replicate, length-replicate}
 use Rattle.std.proofs.lemmas.List.Folds.{Any-from_list_any}
 use Rattle.std.proofs.lemmas.Bool.{eqb-true, eq-eqb, both_ways, false≢true, or_left, or_right, cases_eq, cases_lt}
 use Rattle.std.specs.Bool.{then_some}
 use Rattle.std.specs.Option.{option_or}
-use Rattle.std.proofs.lemmas.Map.Steps.{le-length_from_below}
-use Rattle.std.specs.List.{list_any}
 use Rattle.fabric.specs.declared.parts.Port.{Port}
 use Rattle.fabric.specs.declared.parts.Port.TheVariants.{N, E, S, W}
+use Rattle.fabric.proofs.Pigeons.{filled}
 use Rattle.cabled.specs.Levels.{any, at, again, Way, Found, Level}
 
 any_some : (f : Port → Bool) → any f ≡ true → (p : Port) × (f p ≡ true)
@@ -19,26 +18,6 @@ some_any f N e = or_left _ _ e
 some_any f E e = or_right (f N) _ (or_left _ _ e)
 some_any f S e = or_right (f N) _ (or_right (f E) _ (or_left _ _ e))
 some_any f W e = or_right (f N) _ (or_right (f E) _ (or_right (f S) _ (or_left _ _ e)))
-
--- what the first n numbers are mapped to
-abbrev values : (ℕ → ℕ) → ℕ → List ℕ
-values f zero = []
-values f (suc n) = f n ∷ values f n
-
-length_values : (f : ℕ → ℕ) (n : ℕ) → length (values f n) ≡ n
-length_values f zero = refl
-length_values f (suc n) = ap suc (length_values f n)
-
-value_met : (f : ℕ → ℕ) (n u : ℕ) → u < n → list_any (eqb (f u)) (values f n) ≡ true
-value_met f zero u l = absurd (omega arith)
-value_met f (suc n) u l =
-    ⊎_elim (λ e. or_left _ _ (eq-eqb (f u) (f n) (ap f e))) (λ h. or_right (eqb (f u) (f n)) _ (value_met f n u (omega arith))) (cases_eq u n)
-
--- where each value below k is met among n numbers, k is at most n
-few_values : (n : ℕ) (f : ℕ → ℕ) (k : ℕ) → ((j : ℕ) → j < k → (u : ℕ) × (u < n) × (f u ≡ j)) → k ≤ n
-few_values n f k h =
-    subst (λ m. k ≤ m) (length_values f n)
-    (le-length_from_below (values f n) k (λ j l. let m = h j l in subst (λ v. list_any (eqb v) (values f n) ≡ true) m.2 (value_met f n m.0 m.1)))
 
 at_true : (l : ℕ) (o : Option ℕ) → at l o ≡ true → o ≡ Some l
 at_true l (Some d) e = ap Some (eqb-true d l e)
@@ -132,7 +111,7 @@ module _ (next : ℕ → Port → ℕ) (t : ℕ) where
           let top = a (suc d) (p, b.1.0) in
           let value : Option ℕ → ℕ = λ o. unwrap_or o 64 in
           let all : 65 ≤ n =
-          few_values n (λ v. value (f v)) 65
+          filled (λ v. value (f v)) n 65
           (λ j i.
           ⊎_elim (λ c. let m = each d (next u p) (inside u p q) g j (omega (arith, b.0)) in (m.0, m.1, ap value m.2))
           (λ c. (u, q, ap value e ∙ (let z : 64 ≡ j = omega arith in z))) (cases_lt j 64)) in

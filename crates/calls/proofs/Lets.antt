@@ -1,5 +1,6 @@
 -- A node lets a flit in: the tables then show the log with that.
 use Rattle.std.proofs.Common.{◌≤◌, ◌≡◌, ℕ, ◌+◌, ◌<◌, false, ◌⊎◌, List, [], ◌∷◌, ◌++◌, get_or, map, drop, set, Some, None, Option, sym, refl, ap, ◌∙◌, subst, inl, inr, arith}
+use Rattle.std.specs.List.{AllByRecursion}
 use mathlib.Core.Path.{fun_ext}
 use Rattle.std.proofs.lemmas.List.{get_or-set_same, get_or-set_other}
 use Rattle.std.proofs.lemmas.Bool.{cases_eq, eq-eqb, ne_eqb, cond-true, cond-false, and_left, and_right, and_from}
@@ -20,7 +21,7 @@ use Rattle.network.specs.Log.Happening.{entered}
 use Rattle.network.specs.Cycle.{Fabric, State, entered_at, in_slot_order}
 use Rattle.network.specs.Runs.{put_all, told, event_of}
 use Rattle.network.specs.Computed.{gap, placed, next_of, with_flit, left, entering, ready}
-use Rattle.network.proofs.Invariant.{Inv, Opened, Each, Waits as Waiting}
+use Rattle.network.proofs.Invariant.{Inv, Opened, Waits as Waiting}
 use Rattle.network.proofs.Places.{some_none, at_ordered}
 use Rattle.calls.specs.declared.ticket.Ticket.{Ticket}
 use Rattle.calls.specs.declared.tables.Tables.{Tables}
@@ -72,7 +73,7 @@ module _ (F : Fabric) (i : Tables) (s : State) (l : Log) (n : ℕ) (law : Lawful
     -- the first that waits
     module _ (t : ℕ) (ts : List ℕ) (e : waiting T n s.log ≡ t ∷ ts) where
       waits : Waiting P s.log n t
-      waits = (subst (λ (xs : List ℕ). Each (Waiting P s.log n) xs) e (inv.queue n)).0
+      waits = (subst (λ (xs : List ℕ). AllByRecursion (Waiting P s.log n) xs) e (inv.queue n)).0
 
       opened : Opened F P s.log t
       opened = inv.opens t waits.open_ticket

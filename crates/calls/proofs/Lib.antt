@@ -1,7 +1,6 @@
 pub mod Promising
 pub mod Recording
 pub mod Showing
-pub mod Pigeons
 pub mod Looking
 pub mod Setting
 pub mod Offers

@@ -1,5 +1,7 @@
 -- What an offer does.
 use Rattle.std.proofs.Common.{◌≡◌, ℕ, ◌+◌, ◌*◌, ◌/◌, ◌%◌, ◌<◌, ◌≤◌, true, false, cond, ◌||◌, eqb, ltb, leb, ◌⊎◌, List, [], ◌∷◌, ◌++◌, length, get_or, set, is_some, Some, None, Option, sym, refl, ap, ◌∙◌, subst, inl, inr, mod-lt, mul-le-mul_left, div-add-mod', arith}
+use Rattle.std.specs.List.{AllByRecursion}
+use Rattle.fabric.proofs.Pigeons.{Distinct, few}
 use lib.Arith.{digits_lt, digits_div}
 use Rattle.std.proofs.lemmas.List.{get_or-set_same, get_or-set_other, get_or-replicate, length-map}
 use Rattle.std.proofs.lemmas.Bool.{le-leb, lt-leb, le-ltb, lt-ltb, eq-eqb, ne_eqb, or_left, or_right, or_from, cond-true, cond-false, cases_eq, not_from_true, not-false, both_ways}
@@ -16,14 +18,13 @@ use Rattle.network.specs.Runs.{ticket, missing, offer_verdict, with_log}
 use Rattle.network.specs.Runs.Call.{offer}
 use Rattle.network.specs.Runs.Outcome.{offering}
 use Rattle.network.specs.Computed.{decided}
-use Rattle.network.proofs.Invariant.{Each, Distinct, each_map, Waits as Waiting, Inv}
+use Rattle.network.proofs.Invariant.{all_map, Waits as Waiting, Inv}
 use Rattle.calls.specs.declared.tables.Tables.{Tables}
 use Rattle.calls.specs.declared.ticket.Ticket.{Ticket}
 use Rattle.calls.specs.Records.{lines, line_at, Accepts}
 use Rattle.calls.specs.Follow.{Shows, Recorded, Entry, Records}
 use Rattle.calls.proofs.Promising.{Works, nothing_done}
 use Rattle.calls.proofs.Showing.{like, change, entry_of, invariant, logged}
-use Rattle.calls.proofs.Pigeons.{few}
 use Rattle.calls.proofs.Setting.{ticket_below}
 
 -- a ticket's number lies among those of its node
@@ -38,13 +39,13 @@ own_ticket p law P h n o hn ho =
     let few = law.few_nodes in omega (arith, digits_lt hn ho, mul-le-mul_left p.nodes h)
 
 -- a node with a free ticket has room for one more that waits
-pub room : (P : Settings) (l : Log) (n t : ℕ) (xs : List ℕ) → 0 < P.tickets → t / P.tickets ≡ n → free t l ≡ true → Each (Waiting P l n) xs → Distinct xs →
+pub room : (P : Settings) (l : Log) (n t : ℕ) (xs : List ℕ) → 0 < P.tickets → t / P.tickets ≡ n → free t l ≡ true → AllByRecursion (Waiting P l n) xs → Distinct xs →
     length xs < P.tickets
 room P l n t xs p e f ws d =
     let T = P.tickets in
     few T (n * T) (t ∷ xs)
-    (own_range T n t p e, each_map _ _ (λ x w. own_range T n x p w.node) xs ws)
-    (each_map _ _ (λ x w q. both_ways (free x l) w.open_ticket (ap (λ y. free y l) (sym q) ∙ f)) xs ws, d)
+    (own_range T n t p e, all_map _ _ (λ x w. own_range T n x p w.node) xs ws)
+    (all_map _ _ (λ x w q. both_ways (free x l) w.open_ticket (ap (λ y. free y l) (sym q) ∙ f)) xs ws, d)
 
 module _ (F : Fabric) (i : Tables) (n o d : ℕ) (ws : List ℕ) where
   abbrev P : Settings

@@ -1,14 +1,12 @@
 -- What the verdicts on a sheet's lines make of a report.
-use Rattle.std.proofs.Common.{◌≡◌, ℕ, zero, suc, ◌<◌, ◌≤◌, false, true, ◌||◌, eqb, List, [], ◌∷◌, length, get_or, Err, Result, sym, refl, ap, subst, inl, ⊎_elim, arith}
-use Rattle.std.specs.List.{AllByRecursion, IsDistinct, list_any}
-use Rattle.std.proofs.lemmas.Bool.{cases_Bool, eqb-true, ne_eqb}
-use Rattle.std.proofs.lemmas.Map.Steps.{length-le_from_distinct_below}
+use Rattle.std.proofs.Common.{◌≡◌, ℕ, ◌<◌, ◌≤◌, List, get_or, Err, Result, sym, refl, subst, inl, arith}
 use Rattle.fabric.specs.declared.parts.Cable.{Cable}
 use Rattle.fabric.specs.Layouts.{Plan}
 use Rattle.fabric.specs.Verdicts.{Verdict}
 use Rattle.fabric.specs.Verdicts.Verdict.{granted, refused}
 use Rattle.fabric.specs.Places.{place_below, slot_same}
-use Rattle.cabled.specs.Cables.{Cabling, lone, cable_at, Fair, Good, AllGood}
+use Rattle.fabric.proofs.Pigeons.{apiece}
+use Rattle.cabled.specs.Cables.{Cabling, lone, cable_at, Fair, AllGood}
 use Rattle.cabled.specs.Cables.Cabling.{unfair, bad, unreached, cabled}
 use Rattle.cabled.specs.Tables.{index}
 use Rattle.text.specs.declared.fault.Fault.{Fault}
@@ -32,53 +30,28 @@ as_plans plan {k} {cs} {x} e = go
     go (unreached f g n l h) = same (unreached f g n l h)
     go (cabled f g h m) = cabled f g h m
 
--- the numbers of the slots that the first n cables begin at
-abbrev heads : List Cable → ℕ → List ℕ
-heads cs zero = []
-heads cs (suc n) = index (cable_at cs n).one ∷ heads cs n
-
-length_heads : (cs : List Cable) (n : ℕ) → length (heads cs n) ≡ n
-length_heads cs zero = refl
-length_heads cs (suc n) = ap suc (length_heads cs n)
-
--- what is in a list has what all in it have
-among : (P : ℕ → Type 0) (xs : List ℕ) → AllByRecursion P xs → (q : ℕ) → list_any (eqb q) xs ≡ true → P q
-among P [] h q e = cc
-among P (x ∷ xs) h q e =
-    ⊎_elim
-    (λ t. subst P (sym (eqb-true q x t)) h.0)
-    (λ f. among P xs h.1 q (subst (λ b. (b || list_any (eqb q) xs) ≡ true) f e))
-    (cases_Bool (eqb q x))
-
 module _ (k : ℕ) (cs : List Cable) (f : Fair k) where
-  heads_below : (n : ℕ) → AllGood k cs n → AllByRecursion (λ x. x < 256) (heads cs n)
-  heads_below zero g = tt
-  heads_below (suc n) g =
-      let c = cable_at cs n in
-      let there : c.one.node < k = (g n (omega arith)).there c.one c.other (inl (refl, refl)) in
-      let r = place_below c.one.port in
-      let most = f.1 in
-      (omega arith, heads_below n (λ i l. g i (omega arith)))
-
-  apart : (n : ℕ) → Good k cs n → (m : ℕ) → m ≤ n → AllByRecursion (λ y. eqb (index (cable_at cs n).one) y ≡ false) (heads cs m)
-  apart n g zero l = tt
-  apart n g (suc m) l =
-      let c = cable_at cs n in
-      let d = cable_at cs m in (
-        ne_eqb (index c.one) (index d.one) (λ e. g.fresh c.one c.other d.other (inl (refl, refl)) (m, omega arith, inl (sym (slot_same c.one d.one e), refl))),
-        apart n g m (omega arith),
-      )
-
-  distinct_heads : (n : ℕ) → AllGood k cs n → IsDistinct eqb (heads cs n)
-  unfolding IsDistinct
-  distinct_heads zero g = tt
-  distinct_heads (suc n) g = (apart n (g n (omega arith)) n (omega arith), distinct_heads n (λ i l. g i (omega arith)))
+  -- the number of the slot that a cable begins at
+  abbrev head : ℕ → ℕ
+  head i = index (cable_at cs i).one
 
   -- good cables begin at slots that are apart, and there are 256 slots
   few_good : (n : ℕ) → AllGood k cs n → n ≤ 256
-  few_good n g =
-      subst (λ m. m ≤ 256) (length_heads cs n)
-      (length-le_from_distinct_below (heads cs n) 256 (distinct_heads n g) (among (λ x. x < 256) (heads cs n) (heads_below n g)))
+  few_good n g = apiece head n 256 inside differ
+    where
+      inside : (i : ℕ) → i < n → head i < 256
+      inside i l =
+          let c = cable_at cs i in
+          let there : c.one.node < k = (g i l).there c.one c.other (inl (refl, refl)) in
+          let r = place_below c.one.port in
+          let most = f.1 in
+          omega arith
+
+      differ : (i j : ℕ) → j < i → i < n → head i ≡ head j → ⊥
+      differ i j l h e =
+          let c = cable_at cs i in
+          let d = cable_at cs j in
+          (g i h).fresh c.one c.other d.other (inl (refl, refl)) (j, l, inl (sym (slot_same c.one d.one e), refl))
 
 abbrev pub NamedBelow : Verdict Unit → Type 0
 NamedBelow (granted a) = Unit {0}

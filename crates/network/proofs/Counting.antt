@@ -2,6 +2,7 @@
 -- What each ticket may still bring is summed over all tickets. An accepted offer raises that sum by at most as much,
 -- and an entry, a taking off or a collection lowers its own sum by one.
 use Rattle.std.proofs.Common.{◌≡◌, ℕ, zero, suc, ◌+◌, ◌-◌, ◌*◌, ◌<◌, ◌≤◌, true, false, cond, eqb, ◌⊎◌, List, [], ◌∷◌, ◌++◌, length, Some, None, Option, sym, refl, ap, ◌∙◌, subst, inl, inr, arith, is_some}
+use Rattle.std.specs.List.{AllByRecursion}
 use Rattle.std.proofs.lemmas.Bool.{eq-eqb, ne_eqb, cases_eq}
 use Rattle.fabric.specs.declared.parts.Flit.{Flit}
 use Rattle.fabric.specs.declared.parts.Port.{Port}
@@ -17,7 +18,7 @@ use Rattle.network.specs.Runs.Call.{offer, cycle, collect, look}
 use Rattle.network.specs.Computed.{taken, entering, cycled, next, after}
 use Rattle.network.specs.Counts.{offers, entries, collections}
 use Rattle.network.proofs.Nodes.{taken_here}
-use Rattle.network.proofs.Invariant.{Waits, Inv, Each}
+use Rattle.network.proofs.Invariant.{Waits, Inv}
 use Rattle.network.proofs.Offering.{complete_parts}
 use Rattle.network.proofs.Cycling.{grown, half_log, grown_none, grown_more, stage_here, take_step, next_of_half, stages}
 use Rattle.network.proofs.Running.{by_verdict, offerable, collectable, invariant}
@@ -181,7 +182,7 @@ module _ (F : Fabric) (P : Settings) where
         go (Some b) e =
             let j = take_step F P s i k (stages F P s i k h) in
             let x = next_of_half F P s i k b.0 b.1 e in
-            let z : Each (Waits P (half_log F P s k) k) (b.1.ticket ∷ x.others) = subst (Each (Waits P (half_log F P s k) k)) x.ticket (j.queue k) in
+            let z : AllByRecursion (Waits P (half_log F P s k) k) (b.1.ticket ∷ x.others) = subst (AllByRecursion (Waits P (half_log F P s k) k)) x.ticket (j.queue k) in
             entry_covered w b.1 k (j.opens b.1.ticket z.0.open_ticket).ticket z.0.more
 
     nodes_covered : AllCovered s.log → (k : ℕ) → k ≤ F.plan.nodes → AllCovered (grown F P s k)

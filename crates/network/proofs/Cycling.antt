@@ -1,5 +1,6 @@
 -- The invariant over one cycle: node after node, and then each flit to its port's far end.
 use Rattle.std.proofs.Common.{◌≡◌, ℕ, zero, suc, ◌+◌, ◌/◌, ◌<◌, ◌≤◌, cond, eqb, ltb, ◌⊎◌, List, ◌∷◌, ◌++◌, Some, None, Option, sym, refl, ap, ◌∙◌, subst, inl, inr, append_assoc, add-one, arith}
+use Rattle.std.specs.List.{AllByRecursion}
 use Rattle.std.proofs.lemmas.Bool.{eq-eqb, ne_eqb, lt-ltb, le-ltb, cases_eq, cases_lt}
 use Rattle.std.proofs.lemmas.Nat.{row_below_turned}
 use Rattle.std.proofs.lemmas.Option.{some_pair_parts}
@@ -13,7 +14,7 @@ use Rattle.network.specs.Cycle.{Fabric, State, Next, off_at, entered_at}
 use Rattle.network.specs.Computed.{taken, left, entering, ready, arriving, done, cycled}
 use Rattle.network.proofs.Places.{some_none}
 use Rattle.network.proofs.Nodes.{taken_here, slot_split, left_slot, left_gone, enters, ready_split, left_ready, entering_ready, leads_to, arrives, came}
-use Rattle.network.proofs.Invariant.{Waits, Inv, Each}
+use Rattle.network.proofs.Invariant.{Waits, Inv}
 use Rattle.network.proofs.Moving.{Slots, inv_move}
 use Rattle.network.proofs.Taking.{inv_take}
 use Rattle.network.proofs.Entering.{inv_enter}
@@ -77,7 +78,7 @@ module _ (F : Fabric) (P : Settings) (s : State) where
     pub waited : (k : ℕ) (p : Port) (f : Flit) → entering F P s k ≡ Some (p, f) → Waits P s.log k f.ticket
     waited k p f e =
         let z = (enters F P s k p f e).1 in
-        let w : Each (Waits P s.log k) (f.ticket ∷ z.others) = subst (λ (x : List ℕ). Each (Waits P s.log k) x) z.ticket (i.queue k) in
+        let w : AllByRecursion (Waits P s.log k) (f.ticket ∷ z.others) = subst (λ (x : List ℕ). AllByRecursion (Waits P s.log k) x) z.ticket (i.queue k) in
         w.0
 
     pub keeps_sent : (k t : ℕ) → k ≤ t / P.tickets → sent t (grown k) ≡ sent t s.log

@@ -1,5 +1,7 @@
 -- The invariant when a flit enters.
 use Rattle.std.proofs.Common.{◌≡◌, ℕ, suc, ◌+◌, ◌/◌, ◌<◌, ◌≤◌, Bool, true, false, cond, eqb, ◌⊎◌, List, ◌∷◌, ◌++◌, take, drop, Some, None, Option, sym, refl, ap, ◌∙◌, subst, inl, inr, arith, take-append-drop, drop-cons}
+use Rattle.std.specs.List.{AllByRecursion}
+use Rattle.fabric.proofs.Pigeons.{Distinct}
 use Rattle.std.proofs.lemmas.List.{length-take-le}
 use Rattle.std.proofs.lemmas.Bool.{eqb-false, eq-eqb, ne_eqb, cases_eq, cases_Bool}
 use Rattle.fabric.specs.declared.parts.Flit.{Flit}
@@ -10,7 +12,7 @@ use Rattle.bounds.specs.declared.settings.Settings.{Settings}
 use Rattle.network.specs.Cycle.{Fabric, State, Next}
 use Rattle.network.specs.Promises.{Same, Stands, OffOnce, NeverOff, InOneSlot, InNoSlot, OfPacket, OfferedLast}
 use Rattle.network.proofs.Stand.{stands_now, stands_later, stands_cases, stands_older, Other, never_more, once_more}
-use Rattle.network.proofs.Invariant.{Sits, Waits, Inv, Each, Distinct, each_map, each_both}
+use Rattle.network.proofs.Invariant.{Sits, Waits, Inv, all_map, all_both}
 use Rattle.network.proofs.Moving.{Slots}
 
 -- the slots gain this flit
@@ -50,8 +52,8 @@ module _ (F : Fabric) (P : Settings) (s : State) (n : ℕ) (i : Inv F P s n) (ne
   abbrev now : State
   now = record { cycles = s.cycles; slot = new; log = log }
 
-  queued : Each (Waits P s.log n) (f.ticket ∷ nx.others)
-  queued = subst (λ (x : List ℕ). Each (Waits P s.log n) x) nx.ticket (i.queue n)
+  queued : AllByRecursion (Waits P s.log n) (f.ticket ∷ nx.others)
+  queued = subst (λ (x : List ℕ). AllByRecursion (Waits P s.log n) x) nx.ticket (i.queue n)
 
   apart : Distinct (f.ticket ∷ nx.others)
   apart = subst (λ (x : List ℕ). Distinct x) nx.ticket (i.queue_apart n)
@@ -149,23 +151,23 @@ module _ (F : Fabric) (P : Settings) (s : State) (n : ℕ) (i : Inv F P s n) (ne
       go (inr c) (inr d) = i.in_turn a b x y g h c d t k
 
   -- what waits still, but for the ticket of the flit that enters
-  others : (m : ℕ) (xs : List ℕ) → Each (Waits P s.log m) xs → Each (λ u. f.ticket ≡ u → ⊥) xs → Each (Waits P log m) xs
+  others : (m : ℕ) (xs : List ℕ) → AllByRecursion (Waits P s.log m) xs → AllByRecursion (λ u. f.ticket ≡ u → ⊥) xs → AllByRecursion (Waits P log m) xs
   others m xs w d =
-      each_map (λ u. Waits P s.log m u × (f.ticket ≡ u → ⊥)) (Waits P log m)
+      all_map (λ u. Waits P s.log m u × (f.ticket ≡ u → ⊥)) (Waits P log m)
       (λ u e. record { node = e.0.node; open_ticket = e.0.open_ticket; more = rw (ne_eqb u f.ticket (λ h. e.1 (sym h))) e.0.more })
-      xs (each_both (Waits P s.log m) (λ u. f.ticket ≡ u → ⊥) xs w d)
+      xs (all_both (Waits P s.log m) (λ u. f.ticket ≡ u → ⊥) xs w d)
 
-  queue_here : (m : ℕ) → n ≡ m → Each (Waits P log m) (waiting P.tickets m log) × Distinct (waiting P.tickets m log)
+  queue_here : (m : ℕ) → n ≡ m → AllByRecursion (Waits P log m) (waiting P.tickets m log) × Distinct (waiting P.tickets m log)
   queue_here m e = go (cases_Bool (eqb (f.number + 1) (size (packet f.ticket s.log))))
     where
       q : waiting P.tickets m s.log ≡ f.ticket ∷ nx.others
       q = subst (λ (x : ℕ). waiting P.tickets x s.log ≡ f.ticket ∷ nx.others) e nx.ticket
 
-      tail : Each (Waits P log m) nx.others
-      tail = subst (λ (x : ℕ). Each (Waits P log x) nx.others) e (others n nx.others queued.1 apart.0)
+      tail : AllByRecursion (Waits P log m) nx.others
+      tail = subst (λ (x : ℕ). AllByRecursion (Waits P log x) nx.others) e (others n nx.others queued.1 apart.0)
 
       go : (eqb (f.number + 1) (size (packet f.ticket s.log)) ≡ true) ⊎ (eqb (f.number + 1) (size (packet f.ticket s.log)) ≡ false) →
-          Each (Waits P log m) (waiting P.tickets m log) × Distinct (waiting P.tickets m log)
+          AllByRecursion (Waits P log m) (waiting P.tickets m log) × Distinct (waiting P.tickets m log)
       go (inl b) = rw (eq-eqb n m e, b, q) (tail, apart.1)
       go (inr b) =
           let first : Waits P log m f.ticket =
@@ -176,14 +178,14 @@ module _ (F : Fabric) (P : Settings) (s : State) (n : ℕ) (i : Inv F P s n) (ne
           } in
           rw (eq-eqb n m e, b, q) ((first, tail), apart)
 
-  queue_both : (m : ℕ) → Each (Waits P log m) (waiting P.tickets m log) × Distinct (waiting P.tickets m log)
+  queue_both : (m : ℕ) → AllByRecursion (Waits P log m) (waiting P.tickets m log) × Distinct (waiting P.tickets m log)
   queue_both m = go (cases_eq n m)
     where
-      go : (n ≡ m) ⊎ (n ≡ m → ⊥) → Each (Waits P log m) (waiting P.tickets m log) × Distinct (waiting P.tickets m log)
+      go : (n ≡ m) ⊎ (n ≡ m → ⊥) → AllByRecursion (Waits P log m) (waiting P.tickets m log) × Distinct (waiting P.tickets m log)
       go (inl e) = queue_here m e
       go (inr h) =
-          let d : Each (λ u. f.ticket ≡ u → ⊥) (waiting P.tickets m s.log) =
-          each_map (Waits P s.log m) (λ u. f.ticket ≡ u → ⊥) (λ u w e. h (sym queued.0.node ∙ ap (λ (x : ℕ). x / P.tickets) e ∙ w.node)) (waiting P.tickets m s.log) (i.queue m) in
+          let d : AllByRecursion (λ u. f.ticket ≡ u → ⊥) (waiting P.tickets m s.log) =
+          all_map (Waits P s.log m) (λ u. f.ticket ≡ u → ⊥) (λ u w e. h (sym queued.0.node ∙ ap (λ (x : ℕ). x / P.tickets) e ∙ w.node)) (waiting P.tickets m s.log) (i.queue m) in
           rw (ne_eqb n m h) (others m (waiting P.tickets m s.log) (i.queue m) d, i.queue_apart m)
 
   timely : (g : Flit) (m : ℕ) → Stands (entered g m) log → (g.entered ≤ s.cycles) × (g.entered ≡ s.cycles → g.ticket / P.tickets < n + 1)

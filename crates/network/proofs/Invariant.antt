@@ -1,5 +1,8 @@
 -- What holds of every state of a network, also between the nodes of one cycle.
 use Rattle.std.proofs.Common.{◌≡◌, ℕ, ◌/◌, ◌<◌, ◌≤◌, false, ◌⊎◌, List, [], ◌∷◌, ◌++◌, Some, None}
+use Rattle.std.specs.List.{AllByRecursion}
+use Rattle.std.proofs.SliceLists.{all_by_recursion_push}
+use Rattle.fabric.proofs.Pigeons.{Distinct}
 use Rattle.fabric.specs.declared.parts.Flit.{Flit}
 use Rattle.fabric.specs.declared.parts.Port.{Port}
 use Rattle.network.specs.Log.{Log, packet, size, word, aim, free, sent, received, waiting}
@@ -9,29 +12,17 @@ use Rattle.bounds.specs.SetUp.{all_tickets}
 use Rattle.network.specs.Cycle.{Fabric, State}
 use Rattle.network.specs.Promises.{Same, Stands, OffOnce, NeverOff, InOneSlot, InNoSlot, OfPacket, OfferedLast}
 
-abbrev pub Each : (ℕ → Type 0) → List ℕ → Type 0
-Each R [] = Unit {0}
-Each R (x ∷ xs) = R x × Each R xs
+pub all_map : (R Q : ℕ → Type 0) → ((x : ℕ) → R x → Q x) → (xs : List ℕ) → AllByRecursion R xs → AllByRecursion Q xs
+all_map R Q h [] e = tt
+all_map R Q h (x ∷ xs) e = (h x e.0, all_map R Q h xs e.1)
 
-abbrev pub Distinct : List ℕ → Type 0
-Distinct [] = Unit {0}
-Distinct (x ∷ xs) = Each (λ y. x ≡ y → ⊥) xs × Distinct xs
+pub all_both : (R Q : ℕ → Type 0) (xs : List ℕ) → AllByRecursion R xs → AllByRecursion Q xs → AllByRecursion (λ x. R x × Q x) xs
+all_both R Q [] d e = tt
+all_both R Q (x ∷ xs) d e = ((d.0, e.0), all_both R Q xs d.1 e.1)
 
-pub each_map : (R Q : ℕ → Type 0) → ((x : ℕ) → R x → Q x) → (xs : List ℕ) → Each R xs → Each Q xs
-each_map R Q h [] e = tt
-each_map R Q h (x ∷ xs) e = (h x e.0, each_map R Q h xs e.1)
-
-pub each_both : (R Q : ℕ → Type 0) (xs : List ℕ) → Each R xs → Each Q xs → Each (λ x. R x × Q x) xs
-each_both R Q [] d e = tt
-each_both R Q (x ∷ xs) d e = ((d.0, e.0), each_both R Q xs d.1 e.1)
-
-pub each_snoc : (R : ℕ → Type 0) (xs : List ℕ) (y : ℕ) → Each R xs → R y → Each R (xs ++ (y ∷ []))
-each_snoc R [] y e h = (h, tt)
-each_snoc R (x ∷ xs) y e h = (e.0, each_snoc R xs y e.1 h)
-
-pub distinct_snoc : (xs : List ℕ) (y : ℕ) → Distinct xs → Each (λ x. x ≡ y → ⊥) xs → Distinct (xs ++ (y ∷ []))
-distinct_snoc [] y d e = (tt, tt)
-distinct_snoc (x ∷ xs) y d e = (each_snoc (λ z. x ≡ z → ⊥) xs y d.0 e.0, distinct_snoc xs y d.1 e.1)
+pub distinct_push : (xs : List ℕ) (y : ℕ) → Distinct xs → AllByRecursion (λ x. x ≡ y → ⊥) xs → Distinct (xs ++ (y ∷ []))
+distinct_push [] y d e = (tt, tt)
+distinct_push (x ∷ xs) y d e = (all_by_recursion_push (λ z. x ≡ z → ⊥) xs y d.0 e.0, distinct_push xs y d.1 e.1)
 
 -- a flit in a slot
 pub record Sits (F : Fabric) (P : Settings) (l : Log) (n : ℕ) (f : Flit) : Type 0 where
@@ -67,7 +58,7 @@ pub record Inv (F : Fabric) (P : Settings) (s : State) (N : ℕ) : Type 0 where
   pub opens : (t : ℕ) → free t s.log ≡ false → Opened F P s.log t
   pub right_words : (t k w : ℕ) → free t s.log ≡ false → received t k s.log ≡ Some w → w ≡ word (packet t s.log) k
   pub unsent : (t k : ℕ) → free t s.log ≡ false → sent t s.log ≤ k → received t k s.log ≡ None
-  pub queue : (n : ℕ) → Each (Waits P s.log n) (waiting P.tickets n s.log)
+  pub queue : (n : ℕ) → AllByRecursion (Waits P s.log n) (waiting P.tickets n s.log)
   pub queue_apart : (n : ℕ) → Distinct (waiting P.tickets n s.log)
   pub timely : (f : Flit) (m : ℕ) → Stands (entered f m) s.log → (f.entered ≤ s.cycles) × (f.entered ≡ s.cycles → f.ticket / P.tickets < N)
   pub apart : (f g : Flit) (n m : ℕ) (e : Stands (entered f n) s.log) → Stands (entered g m) e.older → Same g f → ⊥

@@ -1,5 +1,8 @@
 -- The invariant when an offer is accepted, or a packet collected.
 use Rattle.std.proofs.Common.{◌≡◌, ℕ, ◌/◌, ◌<◌, ◌≤◌, true, false, not, eqb, ◌⊎◌, List, [], ◌∷◌, ◌++◌, length, get_or, take, Some, None, Option, sym, refl, ap, ◌∙◌, subst, inl, inr, arith, take-suc, is_some, unwrap_or}
+use Rattle.std.specs.List.{AllByRecursion}
+use Rattle.std.proofs.SliceLists.{all_by_recursion_push}
+use Rattle.fabric.proofs.Pigeons.{Distinct}
 use mathlib.Core.Path.{transport}
 use lib.Seq.{take-length}
 use Rattle.std.proofs.lemmas.Bool.{eq-eqb, ne_eqb, cases_eq, and_parts, not-true, both_ways}
@@ -14,7 +17,7 @@ use Rattle.network.specs.Cycle.{Fabric, State}
 use Rattle.network.specs.Promises.{Stands, OffOnce, NeverOff, InOneSlot, InNoSlot, OfPacket, OfferedLast}
 use Rattle.network.proofs.Stand.{stands_later, stands_cases, stands_older, none_stands, Other, never_more, once_more}
 use Rattle.network.proofs.Places.{some_none}
-use Rattle.network.proofs.Invariant.{Sits, Opened, Waits, Inv, Each, Distinct, each_map, each_snoc, distinct_snoc}
+use Rattle.network.proofs.Invariant.{Sits, Opened, Waits, Inv, all_map, distinct_push}
 
 -- no flit moves
 abbrev pub Quiet : Happening → Type 0
@@ -49,7 +52,7 @@ module _ (F : Fabric) (P : Settings) (s : State) (N : ℕ) (i : Inv F P s N) (x 
       ((t : ℕ) → free t log ≡ false → Opened F P log t) →
       ((t k w : ℕ) → free t log ≡ false → received t k log ≡ Some w → w ≡ word (packet t log) k) →
       ((t k : ℕ) → free t log ≡ false → sent t log ≤ k → received t k log ≡ None) →
-      ((n : ℕ) → Each (Waits P log n) (waiting P.tickets n log) × Distinct (waiting P.tickets n log)) →
+      ((n : ℕ) → AllByRecursion (Waits P log n) (waiting P.tickets n log) × Distinct (waiting P.tickets n log)) →
       ((t r : ℕ) (ws : List ℕ) → x ≡ collected t r ws → OfferedLast t (record { destination = r; words = ws }) s.log) →
       Inv F P now N
   inv_quiet sits opens right_words unsent queue collects =
@@ -122,23 +125,23 @@ module _ (F : Fabric) (P : Settings) (s : State) (N : ℕ) (i : Inv F P s N) (u 
       go (inl h) = rw (eq-eqb t u h)
       go (inr h) = rw (ne_eqb t u h) (i.unsent t k (rw (ne_eqb t u h) at o) (rw (ne_eqb t u h) at l))
 
-  queue_o : (n : ℕ) → Each (Waits P log_o n) (waiting P.tickets n log_o) × Distinct (waiting P.tickets n log_o)
+  queue_o : (n : ℕ) → AllByRecursion (Waits P log_o n) (waiting P.tickets n log_o) × Distinct (waiting P.tickets n log_o)
   queue_o n = go (cases_eq (u / P.tickets) n)
     where
-      old : Each (Waits P log_o n) (waiting P.tickets n s.log)
+      old : AllByRecursion (Waits P log_o n) (waiting P.tickets n s.log)
       old =
-          each_map (Waits P s.log n) (Waits P log_o n)
+          all_map (Waits P s.log n) (Waits P log_o n)
           (λ v w. let h = ne_eqb v u (apart v w.open_ticket) in record { node = w.node; open_ticket = rw h w.open_ticket; more = rw h w.more })
           (waiting P.tickets n s.log) (i.queue n)
 
-      differ : Each (λ v. v ≡ u → ⊥) (waiting P.tickets n s.log)
-      differ = each_map (Waits P s.log n) (λ v. v ≡ u → ⊥) (λ v w. apart v w.open_ticket) (waiting P.tickets n s.log) (i.queue n)
+      differ : AllByRecursion (λ v. v ≡ u → ⊥) (waiting P.tickets n s.log)
+      differ = all_map (Waits P s.log n) (λ v. v ≡ u → ⊥) (λ v w. apart v w.open_ticket) (waiting P.tickets n s.log) (i.queue n)
 
-      go : (u / P.tickets ≡ n) ⊎ (u / P.tickets ≡ n → ⊥) → Each (Waits P log_o n) (waiting P.tickets n log_o) × Distinct (waiting P.tickets n log_o)
+      go : (u / P.tickets ≡ n) ⊎ (u / P.tickets ≡ n → ⊥) → AllByRecursion (Waits P log_o n) (waiting P.tickets n log_o) × Distinct (waiting P.tickets n log_o)
       go (inl e) =
           let h = eq-eqb u u refl in
           let new : Waits P log_o n u = record { node = e; open_ticket = rw h; more = rw h some } in
-          rw (eq-eqb (u / P.tickets) n e) (each_snoc (Waits P log_o n) (waiting P.tickets n s.log) u old new, distinct_snoc (waiting P.tickets n s.log) u (i.queue_apart n) differ)
+          rw (eq-eqb (u / P.tickets) n e) (all_by_recursion_push (Waits P log_o n) (waiting P.tickets n s.log) u old new, distinct_push (waiting P.tickets n s.log) u (i.queue_apart n) differ)
       go (inr h) = rw (ne_eqb (u / P.tickets) n h) (old, i.queue_apart n)
 
   pub inv_offer : Inv F P (record { cycles = s.cycles; slot = s.slot; log = offered u pk ∷ s.log }) N
@@ -259,9 +262,9 @@ module _ (F : Fabric) (P : Settings) (s : State) (N : ℕ) (i : Inv F P s N) (u 
       go (inl h) = absurd (both_ways true (rw (eq-eqb t u h) at o) refl)
       go (inr h) = rw (ne_eqb t u h) at o
 
-  queue_c : (n : ℕ) → Each (Waits P log_c n) (waiting P.tickets n log_c) × Distinct (waiting P.tickets n log_c)
+  queue_c : (n : ℕ) → AllByRecursion (Waits P log_c n) (waiting P.tickets n log_c) × Distinct (waiting P.tickets n log_c)
   queue_c n = (
-    each_map (Waits P s.log n) (Waits P log_c n)
+    all_map (Waits P s.log n) (Waits P log_c n)
         (λ v w. let h = ne_eqb v u (arrived v (sent v s.log) w.more (i.unsent v (sent v s.log) w.open_ticket (omega arith))) in
         record { node = w.node; open_ticket = rw h w.open_ticket; more = w.more })
         (waiting P.tickets n s.log) (i.queue n),

@@ -1,5 +1,5 @@
 -- A session whose network was just set up.
-use Rattle.std.proofs.Common.{◌≡◌, ℕ, zero, suc, List, [], ◌∷◌, ◌++◌, map, length, get_or, replicate, None, Option, sym, refl, ap, ◌∙◌, subst, ap₂, subst₂, arith}
+use Rattle.std.proofs.Common.{◌≡◌, ℕ, zero, suc, List, [], ◌∷◌, map, length, get_or, replicate, None, Option, sym, refl, ap, ◌∙◌, subst, ap₂, subst₂, arith}
 use Rattle.std.specs.List.{AllByRecursion}
 use Rattle.bounds.specs.declared.settings.Settings.{Settings}
 use Rattle.fabric.specs.Verdicts.Verdict.{granted}

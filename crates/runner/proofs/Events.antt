@@ -12,7 +12,7 @@ use Rattle.network.specs.Log.{Log, free, packet}
 use Rattle.network.specs.Log.Happening.{offered, entered, off, collected}
 use Rattle.network.specs.Cycle.{Fabric, State, Places, Work, Works, Takes, LetsIn, Cycle, golden_in, off_at, entered_at, news, happened}
 use Rattle.network.specs.Runs.{told, count_off, event_in, event_out}
-use Rattle.network.proofs.Invariant.{Inv, Waits, Each}
+use Rattle.network.proofs.Invariant.{Inv, Waits}
 use Rattle.network.specs.Counts.{offers, entries, collections}
 use Rattle.runner.specs.Listing.{enters, leaves, ins, outs, under_way}
 use Rattle.runner.specs.Tallies.{Small}
@@ -97,7 +97,7 @@ module _ (F : Fabric) (P : Settings) (s : State) (i : Inv F P s 0) (nodes : F.pl
   small_in n e places (Some b) t l h =
       let f = b.1 in
       let z = t.1 in
-      let w : Each (Waits P s.log n) (f.ticket ∷ z.others) = subst (λ (x : List ℕ). Each (Waits P s.log n) x) z.ticket (i.queue n) in
+      let w : AllByRecursion (Waits P s.log n) (f.ticket ∷ z.others) = subst (λ (x : List ℕ). AllByRecursion (Waits P s.log n) x) z.ticket (i.queue n) in
       let x = i.opens f.ticket w.0.open_ticket in
       let now = z.now in
       all_by_recursion_push Small (told l) _ h
