@@ -9,11 +9,10 @@ use Rattle.bounds.specs.declared.settings.Settings.{Settings}
 use Rattle.bounds.specs.SetUp.{all_tickets, set_up_verdict}
 use Rattle.clock.specs.Draws.{register}
 use Rattle.network.specs.Log as log
-use Rattle.network.specs.Log.Happening.{entered}
 use Rattle.network.specs.Cycle.{Fabric, State}
 use Rattle.network.specs.Runs.{Call, Outcome, Serves, Leads, fresh}
 use Rattle.network.specs.Runs.Outcome.{offering, cycling, collecting, looking}
-use Rattle.network.specs.Promises.{Stands, OffOnce, Kept}
+use Rattle.network.specs.Promises.{InTime, Kept}
 use Rattle.calls.specs.declared.ticket.Ticket.{Ticket}
 use Rattle.calls.specs.declared.tables.Tables.{Tables}
 use Rattle.calls.specs.Records.{lines}
@@ -112,7 +111,6 @@ pub record Begins (F : Fabric) (P : Settings) (i : Tables) : Type 0 where
   pub follows : Follows F i [] fresh
   pub whole : Whole F i
 
--- whatever calls come yet: each flit that entered is taken off once l more cycles are carried out
-abbrev pub OffWithin : Fabric → Tables → ℕ → Type 0
-OffWithin F i l = (run : List Call) (s : State) → Follows F i run s → (more : List Call) (r : State) → Leads F i.settings (more ++ run) r →
-    (f : Flit) (n : ℕ) → Stands (entered f n) r.log → f.entered + 1 + l ≤ r.cycles → OffOnce f r.log
+-- each flit is in time, by l, whatever calls come yet
+abbrev pub StaysInTime : Fabric → Tables → ℕ → Type 0
+StaysInTime F i l = (run : List Call) (s : State) → Follows F i run s → (more : List Call) (r : State) → Leads F i.settings (more ++ run) r → InTime l r

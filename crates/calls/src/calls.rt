@@ -7,7 +7,7 @@ ghost use Rattle.bounds.specs.SetUp.{set_up_verdict};
 ghost use Rattle.bounds.specs.Lateness.{latest};
 ghost use Rattle.network.specs.Runs.Call.{offer as offers, cycle as cycles, collect as collects, look as looks};
 ghost use Rattle.network.specs.Runs.Outcome.{offering, cycling, collecting, looking};
-ghost use Rattle.calls.specs.Follow.{declined, Promised, Begins, OffWithin};
+ghost use Rattle.calls.specs.Follow.{declined, Promised, Begins, StaysInTime};
 ghost use Rattle.calls.specs.Steps.{Unsent};
 ghost use Rattle.calls.specs.Midway.{Sent, NodeWorks};
 ghost use Rattle.calls.specs.Networks.{fabric_of, SameParts};
@@ -71,7 +71,7 @@ impl<L: Layout, S: Switch> Network<L, S> {
     // Within so many cycles of being injected a flit is ejected, whatever traffic there is.
     pub fn limit(&self) -> usize
         ensures exact { result ≡ latest (L.plan self.now.layout) self.now.inner.settings }
-        ensures promised { OffWithin (fabric_of L.plan S.turn self.now) self.now.inner result }
+        ensures promised { StaysInTime (fabric_of L.plan S.turn self.now) self.now.inner result }
     {
         // The number that `Limits` answers, which judges settings first: those of a network are judged already.
         let Settings { tickets, epoch, .. } = self.inner.settings;

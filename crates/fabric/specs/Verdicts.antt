@@ -15,3 +15,8 @@ judged (r ∷ rs) a = cond r.1 (refused r.0 []) (judged rs a)
 abbrev pub granting : {A B : Type 0} → (A → B) → Verdict A → Verdict B
 granting f (granted a) = granted (f a)
 granting f (refused k vs) = refused k vs
+
+-- the value that is granted, or another where it is refused
+abbrev pub value_or : {A : Type 0} → A → Verdict A → A
+value_or a (granted b) = b
+value_or a (refused k vs) = a

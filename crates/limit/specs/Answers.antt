@@ -1,6 +1,5 @@
 -- What a sheet is answered: the plan of its layout and the limits of its settings, or a fault.
-use Rattle.std.specs.Prelude.{◌≡◌, ℕ, ◌+◌, ◌≤◌, ◌⊎◌, List}
-use Rattle.fabric.specs.declared.parts.Flit.{Flit}
+use Rattle.std.specs.Prelude.{◌≡◌, ℕ, ◌⊎◌, List}
 use Rattle.fabric.specs.Layouts.{Plan}
 use Rattle.fabric.specs.Meshes.{mesh_plan}
 use Rattle.cabled.specs.Plans.{plan_of}
@@ -8,10 +7,9 @@ use Rattle.switch.specs.Switches.{Handing, Turn, LawfulSwitch}
 use Rattle.bounds.specs.declared.settings.Settings.{Settings}
 use Rattle.bounds.specs.declared.limits.Limits.{Limits}
 use Rattle.bounds.specs.Lateness.{limits_of}
-use Rattle.network.specs.Log.Happening.{entered}
 use Rattle.network.specs.Cycle.{State}
 use Rattle.network.specs.Runs.{Call, Leads}
-use Rattle.network.specs.Promises.{Stands, OffOnce}
+use Rattle.network.specs.Promises.{InTime}
 use Rattle.text.specs.declared.fault.Fault.{Fault}
 use Rattle.text.specs.declared.parts.Run.{Run}
 use Rattle.text.specs.Faults.{told}
@@ -23,16 +21,13 @@ use Rattle.laying.specs.Layings.{settings_of, Judged}
 use Rattle.laying.specs.Reports.{Report, then}
 use Rattle.laying.specs.Reports.Report.{answers, faults}
 
--- in every network of this plan and these settings, whatever its switch and whatever calls come,
--- a flit that entered is taken off, once and at its destination, once l more cycles are carried out
-abbrev pub OffWithin : Plan → Settings → ℕ → Type 0
-OffWithin p P l =
-    (turn : Handing → Turn) → LawfulSwitch turn → (run : List Call) (s : State) → Leads (record { plan = p; turn = turn }) P run s →
-    (f : Flit) (n : ℕ) → Stands (entered f n) s.log → f.entered + 1 + l ≤ s.cycles → OffOnce f s.log
+-- each flit is in time, by l, in every network of this plan and these settings, whatever its switch and whatever calls come
+abbrev pub AlwaysInTime : Plan → Settings → ℕ → Type 0
+AlwaysInTime p P l = (turn : Handing → Turn) → LawfulSwitch turn → (run : List Call) (s : State) → Leads (record { plan = p; turn = turn }) P run s → InTime l s
 
 -- the limit that is answered is kept
 abbrev pub Vouched : Run → Report (Plan × Limits) → Type 0
-Vouched r (answers a) = OffWithin a.0 (settings_of r) a.1.latest
+Vouched r (answers a) = AlwaysInTime a.0 (settings_of r) a.1.latest
 Vouched r (faults x) = Unit {0}
 
 -- the limits of the settings on the layout's plan, where both are accepted

@@ -3,7 +3,7 @@ ghost use Rattle.std.specs.Prelude.{◌≡◌, IfOk};
 ghost use Rattle.laying.specs.Layings.{settings_of, settled};
 ghost use Rattle.laying.specs.Reports.{reported};
 ghost use Rattle.bounds.specs.Lateness.{limits_of};
-ghost use Rattle.limit.specs.Answers.{OffWithin, Answered, OneAnswer, meant};
+ghost use Rattle.limit.specs.Answers.{AlwaysInTime, Answered, OneAnswer, meant};
 
 use bounds::limits::Limits;
 use cabled::cabled::Cabled;
@@ -24,7 +24,7 @@ pub enum Answer {
 fn bound<L: Layout>(layout: &L, run: Run) -> Result<Limits, Fault>
     ensures judged { reported (λ _. L.plan layout.now) result ≡ settled run (L.plan layout.now) }
     ensures exact { IfOk result (λ l. l ≡ limits_of (L.plan layout.now) (settings_of run)) }
-    ensures kept { IfOk result (λ l. OffWithin (L.plan layout.now) (settings_of run) l.latest) }
+    ensures kept { IfOk result (λ l. AlwaysInTime (L.plan layout.now) (settings_of run) l.latest) }
 {
     Limits::of(layout, settings(run)).map_err(at_run_line)
 }

@@ -117,15 +117,18 @@ pub record IntoEpoch (F : Fabric) (P : Settings) (t k : ℕ) (early : State) (ru
 abbrev pub Together : State → State → Flit → Flit → Type 0
 Together s r f g = ((n : ℕ) × (p : Port) × (s.slot n p ≡ Some f) × (r.slot n p ≡ Some g)) ⊎ (OffOnce f s.log × OffOnce g r.log)
 
+-- each flit that entered is taken off, once and at its destination, when l more cycles are carried out
+abbrev pub InTime : ℕ → State → Type 0
+InTime l s = (f : Flit) (n : ℕ) → Stands (entered f n) s.log → f.entered + 1 + l ≤ s.cycles → OffOnce f s.log
+
 -- once so many cycles are carried out, a flit that entered in this cycle is taken off
 abbrev pub off_by : Plan → Settings → ℕ → ℕ
 off_by p P c = c + 1 + latest p P
 
 -- what is kept by a run that leads to s
 pub record Kept (F : Fabric) (P : Settings) (run : List Call) (s : State) : Type 0 where
-  -- in time: a flit that entered is taken off, once and at its destination, once (G + 1) × L more cycles are carried out
-  pub delivered : (f : Flit) (n : ℕ) → Stands (entered f n) s.log →
-      off_by F.plan P f.entered ≤ s.cycles → OffOnce f s.log
+  -- in time: within (G + 1) × L cycles
+  pub delivered : InTime (latest F.plan P) s
   -- all accounted for: every flit that entered is taken off or in exactly one slot
   pub accounted : (f : Flit) (n : ℕ) → Stands (entered f n) s.log →
       (OffOnce f s.log × InNoSlot f s) ⊎ (NeverOff f s.log × InOneSlot f s)

@@ -3,7 +3,7 @@ use Rattle.std.proofs.Common.{◌≡◌, ℕ, List, [], ◌∷◌, refl, ap, ◌
 use Rattle.fabric.specs.declared.mesh.Mesh.{Mesh}
 use Rattle.fabric.specs.Layouts.{Plan, Lawful}
 use Rattle.fabric.specs.Meshes.{mesh_plan}
-use Rattle.fabric.specs.Verdicts.{Verdict}
+use Rattle.fabric.specs.Verdicts.{Verdict, value_or}
 use Rattle.fabric.specs.Verdicts.Verdict.{granted, refused}
 use Rattle.fabric.specs.Grid.{mesh_lawful}
 use Rattle.switch.specs.Chippers.{chipper_turn}
@@ -110,11 +110,6 @@ brings_so i a b c d j k h q r s t o v w x y m set e offers one two three collect
     served_more done_2 (subst (λ (z : Queue Event). Promised net c d (cycle z) (cycling x t)) e_2 three) in
     ap brought (the_outcomes i j set (h ∷ run_3 k) _ (served_more done_3 collects)) ∙ last
 
--- the plan of a layout that was granted
-abbrev plan_in : Verdict Plan → Plan
-plan_in (granted p) = p
-plan_in (refused k vs) = mesh_plan 2 1
-
 module _ {C : Type 0} where
   abbrev plan_of : Network Mesh C → Plan
   plan_of n = mesh_plan n.layout.width n.layout.height
@@ -139,7 +134,7 @@ module _ {C : Type 0} where
       (here n a same offers) (here a b at_a one) (here b c at_b two) (here c d at_c three) (here d j at_d collects) last
     where
       e : plan_of z ≡ mesh_plan 2 1
-      e = ap (λ (x : Mesh). mesh_plan x.width x.height) its ∙ ap plan_in two_nodes
+      e = ap (λ (x : Mesh). mesh_plan x.width x.height) its ∙ ap (value_or (mesh_plan 2 1)) two_nodes
 
       here : (f g : Network Mesh C) {k : Call} {o : Outcome} → f.layout ≡ z.layout → Moves f g k o → Promised net f.inner g.inner k o
       here f g {k} {o} at moves =

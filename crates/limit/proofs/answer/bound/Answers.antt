@@ -15,14 +15,14 @@ use Rattle.text.specs.Faults.{told}
 use Rattle.laying.specs.Layings.{settled, settings_of}
 use Rattle.laying.specs.Reports.{reported, by_layer}
 use Rattle.laying.specs.Reports.Report.{faults}
-use Rattle.limit.specs.Answers.{OffWithin}
-use Rattle.limit.proofs.Answering.{accepted, still_refused, off_within}
+use Rattle.limit.specs.Answers.{AlwaysInTime}
+use Rattle.limit.proofs.Answering.{accepted, still_refused, in_time}
 use Rattle.limit.proofs.answer.bound.Goals as goal
 
 record Bounded (p : Plan) (r : Run) (m : Result Limits Fault) : Type 0 where
   pub judged : reported (λ _. p) m ≡ settled r p
   pub exact : IfOk m (λ l. l ≡ limits_of p (settings_of r))
-  pub kept : IfOk m (λ l. OffWithin p (settings_of r) l.latest)
+  pub kept : IfOk m (λ l. AlwaysInTime p (settings_of r) l.latest)
 
 -- the verdict of set-up, handed on with a refusal's line
 handed_on : (p : Plan) (r : Run) (post : Refusal → Fault → Type 0) → Lawful p → ((e : Refusal) (f : Fault) → post e f → told f ≡ (number e, Network, 3)) →
@@ -34,7 +34,7 @@ handed_on p r post lawful says (Ok l) m h e =
     (record {
       judged = ap (λ (v : Verdict (Unit {0})). by_layer Network (λ _ _. 3) (granting (λ _. p) v)) (sym a.0);
       exact = a.1;
-      kept = off_within p r l lawful a.0 a.1;
+      kept = in_time p r l lawful a.0 a.1;
     })
 handed_on p r post lawful says (Err f) (Ok l) h e = absurd h
 handed_on p r post lawful says (Err f) (Err x) h e =
