@@ -1,6 +1,6 @@
 //! Whole sheets and their listings. Expected lines that stand in this file
-//! were worked out by hand from the rules; six.listing was written by the
-//! program `listing` from six.sheet, to be compared with another program's.
+//! were worked out by hand from the rules; six.listing was written by this
+//! model from six.sheet, of the run that the proved program `trace` has.
 
 use model::listing;
 

@@ -16,7 +16,7 @@ pub trait Layout {
     fn far_end(&self, node: usize, port: Port) -> Slot
         ensures { result ≡ (plan self.now).far node port };
 
-    // The fewest hops from one node to another.
+    // How far one node is from another (in the field: the hop count): 0 from itself, and a wish leads one nearer.
     fn distance(&self, from: usize, to: usize) -> usize
         ensures { result ≡ (plan self.now).distance from to };
 

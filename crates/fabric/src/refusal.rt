@@ -1,4 +1,4 @@
-// Why a call is refused. The calls are those of the crates calls, cabled, line and runner; the settings are explained in bounds.
+// Why a call is refused, in every crate. The settings are explained in bounds.
 ghost use Rattle.std.specs.Prelude.{◌≡◌};
 ghost use Rattle.fabric.specs.Refusals.{number};
 
