@@ -17,7 +17,7 @@ use Rattle.network.specs.Runs.Outcome.{collecting}
 use Rattle.network.specs.Computed.{decided}
 use Rattle.calls.specs.declared.tables.Tables.{Tables}
 use Rattle.calls.specs.declared.ticket.Ticket.{Ticket}
-use Rattle.calls.specs.Records.{all_in, values, arrived, lines, Frees}
+use Rattle.calls.specs.Records.{all_in, values, arrived, all_waiting, Frees}
 use Rattle.calls.specs.Follow.{Shows, Recorded, Entry, Records, Queued}
 use Rattle.calls.proofs.Promising.{Works, nothing_done}
 use Rattle.calls.proofs.Setting.{ticket_below}
@@ -149,7 +149,7 @@ module _ (F : Fabric) (i : Tables) (r n o : ℕ) (memory : List ℕ) where
               does = λ s led sh.
                   let e = verdict s sh in
                   let ws = gathered t (size (packet t s.log)) s.log in
-                  let queued : Queued F.plan.nodes P.tickets (lines j) s.log = subst (λ (xs : List (List ℕ)). Queued F.plan.nodes P.tickets xs s.log) (sym (ap (map items) f.waits)) sh.queued in
+                  let queued : Queued F.plan.nodes P.tickets (all_waiting j) s.log = subst (λ (xs : List (List ℕ)). Queued F.plan.nodes P.tickets xs s.log) (sym (ap (map items) f.waits)) sh.queued in
                   let shows : Shows F j (then s) = logged F i j s (collected t r ws) f.keeps sh (records s sh ws) queued in
                   record {
                     exact =

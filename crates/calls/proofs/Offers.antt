@@ -21,7 +21,7 @@ use Rattle.network.specs.Computed.{decided}
 use Rattle.network.proofs.Invariant.{all_map, Waits as Waiting, Inv}
 use Rattle.calls.specs.declared.tables.Tables.{Tables}
 use Rattle.calls.specs.declared.ticket.Ticket.{Ticket}
-use Rattle.calls.specs.Records.{lines, line_at, Accepts}
+use Rattle.calls.specs.Records.{all_waiting, waiting_at, Accepts}
 use Rattle.calls.specs.Follow.{Shows, Recorded, Entry, Records}
 use Rattle.calls.proofs.Promising.{Works, nothing_done}
 use Rattle.calls.proofs.Showing.{like, change, entry_of, invariant, logged}
@@ -132,13 +132,13 @@ module _ (F : Fabric) (i : Tables) (n o d : ℕ) (ws : List ℕ) where
               (change (all_tickets F.plan P) t i.tickets (Some a.its) s.log (offered t p ∷ s.log) (omega arith) sh.records
               (entry_of a.its t (offered t p ∷ s.log) (cond-true _ _ _ (eq-eqb t t refl)) (new_record s.log)) (λ u d. other_record u _ s.log d))
 
-          queued : (s : State) → Inv F P s 0 → Shows F i s → (m : ℕ) → m < F.plan.nodes → get_or (lines j) m [] ≡ waiting P.tickets m (offered t p ∷ s.log)
+          queued : (s : State) → Inv F P s 0 → Shows F i s → (m : ℕ) → m < F.plan.nodes → get_or (all_waiting j) m [] ≡ waiting P.tickets m (offered t p ∷ s.log)
           queued s inv sh m h = ap (λ xs. get_or xs m []) a.waits ∙ go (cases_eq m n)
             where
               here : List ℕ
-              here = joined 8 (line_at i n) t
+              here = joined 8 (waiting_at i n) t
 
-              go : (m ≡ n) ⊎ (m ≡ n → ⊥) → get_or (set (lines i) n here) m [] ≡ waiting P.tickets m (offered t p ∷ s.log)
+              go : (m ≡ n) ⊎ (m ≡ n → ⊥) → get_or (set (all_waiting i) n here) m [] ≡ waiting P.tickets m (offered t p ∷ s.log)
               go (inl q) =
                   let xs = waiting P.tickets n s.log in
                   let fewer = room P s.log n t xs i.fits.some at_node (is_free s sh) (inv.queue n) (inv.queue_apart n) in
@@ -146,14 +146,14 @@ module _ (F : Fabric) (i : Tables) (n o d : ℕ) (ws : List ℕ) where
                   let w = length-map i.waits items in
                   let y = law.few_nodes in
                   let joins : joined 8 xs t ≡ xs ++ (t ∷ []) = cond-true _ _ _ (lt-ltb (length xs) 8 (omega arith)) in
-                  ap (λ k. get_or (set (lines i) n here) k []) q
-                  ∙ get_or-set_same (lines i) n here [] (omega arith)
+                  ap (λ k. get_or (set (all_waiting i) n here) k []) q
+                  ∙ get_or-set_same (all_waiting i) n here [] (omega arith)
                   ∙ ap (λ ys. joined 8 ys t) (sh.queued n hn)
                   ∙ joins
                   ∙ sym (cond-true _ _ _ (eq-eqb (t / P.tickets) n at_node))
                   ∙ ap (λ k. waiting P.tickets k (offered t p ∷ s.log)) (sym q)
               go (inr q) =
-                  get_or-set_other (lines i) n m here [] q
+                  get_or-set_other (all_waiting i) n m here [] q
                   ∙ sh.queued m h
                   ∙ sym (cond-false _ _ _ (ne_eqb (t / P.tickets) m (λ x. q (sym x ∙ at_node))))
 

@@ -101,7 +101,7 @@ module _ (F : Fabric) (P : Settings) (s : State) where
   own_log inv n =
       record {
         taken = λ t. off_free t n (taken F P s n) (grown F P s n) ∙ keeps_free n t;
-        line = off_waiting F P s n n (taken F P s n) (grown F P s n) ∙ keeps_waiting F P s n n (omega arith);
+        waits = off_waiting F P s n n (taken F P s n) (grown F P s n) ∙ keeps_waiting F P s n n (omega arith);
         packets = λ t. off_packet F P s t n (taken F P s n) (grown F P s n) ∙ keeps_packet F P s n t;
         flits = λ t e. off_sent F P s t n (taken F P s n) (grown F P s n) ∙ keeps_sent F P s inv n t (omega arith);
       }

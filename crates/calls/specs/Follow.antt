@@ -15,7 +15,7 @@ use Rattle.network.specs.Runs.Outcome.{offering, cycling, collecting, looking}
 use Rattle.network.specs.Promises.{InTime, Kept}
 use Rattle.calls.specs.declared.ticket.Ticket.{Ticket}
 use Rattle.calls.specs.declared.tables.Tables.{Tables}
-use Rattle.calls.specs.Records.{lines}
+use Rattle.calls.specs.Records.{all_waiting}
 
 abbrev pub slot_of : List (Option Flit) → ℕ → Port → Option Flit
 slot_of xs n p = slice_index_or xs (4 * n + place_of p) None
@@ -47,7 +47,7 @@ pub record Shows (F : Fabric) (i : Tables) (s : State) : Type 0 where
   pub drawn : i.register ≡ register i.settings.seed (s.cycles * F.plan.nodes)
   pub slots : (n : ℕ) (p : Port) → n < F.plan.nodes → slot_of i.slots n p ≡ s.slot n p
   pub records : Records (all_tickets F.plan i.settings) i.tickets s.log
-  pub queued : Queued F.plan.nodes i.settings.tickets (lines i) s.log
+  pub queued : Queued F.plan.nodes i.settings.tickets (all_waiting i) s.log
 
 -- the tables of a network to which a run has led, in the state s
 pub record Follows (F : Fabric) (i : Tables) (run : List Call) (s : State) : Type 0 where

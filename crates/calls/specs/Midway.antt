@@ -14,7 +14,7 @@ use Rattle.network.specs.Cycle.{Fabric, State, golden_in, off_at, entered_at, in
 use Rattle.network.specs.Runs.{Call, Leads, put_all, told, count_off}
 use Rattle.network.specs.Computed.{taken, left, entering, ready, leaving, done}
 use Rattle.calls.specs.declared.tables.Tables.{Tables}
-use Rattle.calls.specs.Records.{lines, Keeps}
+use Rattle.calls.specs.Records.{all_waiting, Keeps}
 use Rattle.calls.specs.Steps.{far_place, Spread}
 use Rattle.calls.specs.Follow.{slot_of, Records, Queued, Shows}
 
@@ -27,7 +27,7 @@ pub record Between (F : Fabric) (s : State) (l : Log) (i : Tables) : Type 0 wher
   pub cycles : i.cycles ≡ s.cycles
   pub slots : (n : ℕ) (p : Port) → n < F.plan.nodes → slot_of i.slots n p ≡ s.slot n p
   pub records : Records (all_tickets F.plan i.settings) i.tickets l
-  pub queued : Queued F.plan.nodes i.settings.tickets (lines i) l
+  pub queued : Queued F.plan.nodes i.settings.tickets (all_waiting i) l
 
 -- a node takes off: the tables then show the log with that, and its event is put into the line
 pub record Took (F : Fabric) (P : Settings) (s : State) (n : ℕ) (l : Log) (j : Tables) (q r : Queue Event) (places : List (Option Flit)) (off : ℕ) : Type 0 where
@@ -45,7 +45,7 @@ pub record TakesOff (i j : Tables) (n g : ℕ) (q r : Queue Event) (places : Lis
 -- a log that says of the node's own tickets what the state's log says
 pub record Own (P : Settings) (s : State) (n : ℕ) (l : Log) : Type 0 where
   pub taken : (t : ℕ) → free t l ≡ free t s.log
-  pub line : waiting P.tickets n l ≡ waiting P.tickets n s.log
+  pub waits : waiting P.tickets n l ≡ waiting P.tickets n s.log
   pub packets : (t : ℕ) → packet t l ≡ packet t s.log
   pub flits : (t : ℕ) → t / P.tickets ≡ n → sent t l ≡ sent t s.log
 
