@@ -1,6 +1,5 @@
 -- What a call does from any state, it promises of every run.
-use Rattle.std.proofs.Common.{◌≡◌, true, false, List, [], ◌∷◌, sym, refl, ◌∙◌, subst, ap₂, subst₂}
-use Rattle.std.proofs.lemmas.Bool.{both_ways}
+use Rattle.std.proofs.Common.{◌≡◌, List, [], ◌∷◌, sym, refl, ◌∙◌, subst, ap₂, subst₂}
 use Rattle.fabric.specs.Layouts.{Lawful}
 use Rattle.fabric.specs.Verdicts.Verdict.{granted}
 use Rattle.switch.specs.Switches.{LawfulSwitch}
@@ -34,10 +33,6 @@ pub nothing_done : {F : Fabric} {i : Tables} {k : Call} {o : Outcome} →
     ((s : State) → Shows F i s → (o ≡ outcome F i.settings s k) × (next F i.settings s k ≡ s)) → Works F i i k o
 nothing_done {F} {i} h =
     record { does = λ s led sh. let e = h s sh in record { exact = e.0; same = refl; shows = subst (Shows F i) (sym e.1) sh } }
-
--- what is granted is not refused
-pub not_refused : {A : Type 0} → false ≡ true → A
-not_refused e = absurd (both_ways false refl e)
 
 module _ {F : Fabric} (law : Lawful F.plan) (sw : LawfulSwitch F.turn) where
   -- what is computed is the outcome

@@ -1,5 +1,5 @@
 -- How the tables of the code stand for a state, and what every call promises.
-use Rattle.std.specs.Prelude.{◌≡◌, ℕ, ◌+◌, ◌*◌, ◌<◌, ◌≤◌, Bool, true, false, not, List, [], ◌∷◌, ◌++◌, Some, None, Option, is_some, slice_index, slice_index_or}
+use Rattle.std.specs.Prelude.{◌≡◌, ℕ, ◌+◌, ◌*◌, ◌<◌, ◌≤◌, not, List, [], ◌∷◌, ◌++◌, Some, None, Option, is_some, slice_index, slice_index_or}
 use Rattle.fabric.specs.declared.parts.Port.{Port}
 use Rattle.fabric.specs.declared.parts.Flit.{Flit}
 use Rattle.fabric.specs.Ports.{place_of}
@@ -63,16 +63,17 @@ pub record Continues (F : Fabric) (i j : Tables) (run : List Call) (s : State) (
   pub follows : Follows F j (k ∷ run) state
   pub kept : Kept F j.settings (k ∷ run) state
 
-abbrev pub declined : {A : Type 0} → Verdict A → Bool
-declined (granted a) = false
-declined (refused k vs) = true
+-- a verdict refuses
+abbrev pub Refuses : {A : Type 0} → Verdict A → Type 0
+Refuses (granted a) = ⊥
+Refuses (refused k vs) = Unit {0}
 
 -- a call is refused
 abbrev pub Refused : Outcome → Type 0
-Refused (offering v) = declined v ≡ true
-Refused (cycling v q) = declined v ≡ true
-Refused (collecting v memory) = declined v ≡ true
-Refused (looking v) = declined v ≡ true
+Refused (offering v) = Refuses v
+Refused (cycling v q) = Refuses v
+Refused (collecting v memory) = Refuses v
+Refused (looking v) = Refuses v
 
 -- what a call promises that takes the tables i to j, for every run that led to i
 pub record Promised (F : Fabric) (i j : Tables) (k : Call) (o : Outcome) : Type 0 where

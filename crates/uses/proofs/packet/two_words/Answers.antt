@@ -10,7 +10,7 @@ unfolding taken left entering ready handing arriving done
 returns c =
     let x =
     brings c.in_ok-mesh.mesh c.new-network.result c.set_up.new.self c.offer.new.self c.cycle.new.self c.cycle-2.new.self c.cycle-3.new.self c.collect.new.self
-    c.in_ok-mesh.ensures c.new-network.ensures.parts.0 (c.set_up.ensures.begins (ap shown c.in_ok-set_up.was)) c.set_up.ensures.parts.0 (c.new-line.ensures.queue ∙ ap blanks (search rules))
+    c.in_ok-mesh.ensures c.new-network.ensures.parts.0 c.in_ok-set_up.ensures.begins c.set_up.ensures.parts.0 (c.new-line.ensures.queue ∙ ap blanks (search rules))
     (c.offer.ensures.promised, c.offer.ensures.parts)
     (c.cycle.ensures.promised, c.cycle.ensures.parts)
     (c.cycle-2.ensures.promised, c.cycle-2.ensures.parts)
@@ -23,7 +23,7 @@ unfolding taken left entering ready handing arriving done
 returns-in_err-collect c =
     let x =
     brings c.in_ok-mesh.mesh c.new-network.result c.set_up.new.self c.offer.new.self c.cycle.new.self c.cycle-2.new.self c.cycle-3.new.self c.collect.new.self
-    c.in_ok-mesh.ensures c.new-network.ensures.parts.0 (c.set_up.ensures.begins (ap shown c.in_ok-set_up.was)) c.set_up.ensures.parts.0 (c.new-line.ensures.queue ∙ ap blanks (search rules))
+    c.in_ok-mesh.ensures c.new-network.ensures.parts.0 c.in_ok-set_up.ensures.begins c.set_up.ensures.parts.0 (c.new-line.ensures.queue ∙ ap blanks (search rules))
     (c.offer.ensures.promised, c.offer.ensures.parts)
     (c.cycle.ensures.promised, c.cycle.ensures.parts)
     (c.cycle-2.ensures.promised, c.cycle-2.ensures.parts)

@@ -7,7 +7,7 @@ use Rattle.calls.specs.Records.{Advances}
 use Rattle.calls.specs.Steps.{Unsent}
 use Rattle.calls.specs.Midway.{NodeWorks}
 use Rattle.calls.proofs.Stepping.{unsent_all}
-use Rattle.calls.proofs.Promising.{not_refused, promised, refusing}
+use Rattle.calls.proofs.Promising.{promised, refusing}
 use Rattle.calls.proofs.Rounds.{round_none, round_more, no_cycle, no_room, cycles_on}
 use Rattle.calls.proofs.calls.Network.cycle.Goals as goal
 
@@ -67,4 +67,4 @@ returns-clause-promised g c =
     promised law (g.met.S.Switch.lawful s.switch)
     (cycles_on F s.inner law q c.if-self-ge-MOST_CYCLES.false (omega arith) c.args.line.now.sound.0 c.loop-node.self.inner c.advance.new.self c.golden-golden.result
     c.loop-node.self.arriving (queue_of c.loop-node.line) c.loop-node.off c.loop-node.node
-    (c.golden-golden.ensures ∙ ap (λ (x : ℕ). golden_ticket (x * s.inner.settings.tickets) s.inner.settings.epoch s.inner.cycles) c.nodes-nodes.ensures) (omega arith) i.0 (subst (λ (m : ℕ). Advances c.loop-node.self.inner c.advance.new.self (4 * m) c.loop-node.self.arriving) c.nodes-nodes.ensures c.advance.ensures)) not_refused
+    (c.golden-golden.ensures ∙ ap (λ (x : ℕ). golden_ticket (x * s.inner.settings.tickets) s.inner.settings.epoch s.inner.cycles) c.nodes-nodes.ensures) (omega arith) i.0 (subst (λ (m : ℕ). Advances c.loop-node.self.inner c.advance.new.self (4 * m) c.loop-node.self.arriving) c.nodes-nodes.ensures c.advance.ensures)) (λ e. absurd e)
