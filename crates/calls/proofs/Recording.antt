@@ -1,17 +1,13 @@
 -- Lists in the records of tickets, and the tickets that wait at a node.
-use Rattle.std.proofs.Common.{◌≡◌, ℕ, ◌+◌, ◌<◌, List, [], ◌∷◌, length, get_or, map, drop, set, Some, None, Option, sym, refl, ap, ◌∙◌, subst, subst₂, add-one}
-use Rattle.std.proofs.lemmas.List.{map-set, get_or-map, length-append}
+use Rattle.std.proofs.Common.{◌≡◌, ℕ, ◌<◌, List, [], ◌∷◌, length, get_or, map, drop, set, Some, None, Option, sym, refl, ap, ◌∙◌, subst, subst₂}
+use Rattle.std.proofs.lemmas.List.{map-set, get_or-map}
 use Rattle.std.specs.Prelude.{slice_get}
 use Rattle.fabric.specs.declared.parts.Flit.{Flit}
 use Rattle.batch.specs.declared.batch.Batch.{Batch}
 use Rattle.batch.specs.Items.{items}
 use Rattle.calls.specs.declared.ticket.Ticket.{Ticket}
 use Rattle.calls.specs.declared.tables.Tables.{Tables}
-use Rattle.calls.specs.Records.{values, all_waiting, waiting_at, Keeps, Receives, Sends, TakesIn, LetsGo}
-
-pub length_values : (xs : List (Option ℕ)) (n : ℕ) → length (values xs n) ≡ n
-length_values xs ℕ.zero = refl
-length_values xs (ℕ.suc n) = length-append (values xs n) _ ∙ ap (λ k. k + 1) (length_values xs n) ∙ add-one n
+use Rattle.calls.specs.Records.{all_waiting, waiting_at, Keeps, Receives, Sends, TakesIn, LetsGo}
 
 pub head_some : (xs : List ℕ) (u : ℕ) → Some u ≡ slice_get xs 0 → (t : ℕ) (ts : List ℕ) → xs ≡ t ∷ ts → t ≡ u
 head_some [] u e t ts q = cc

@@ -1,5 +1,5 @@
 -- The invariant when an offer is accepted, or a packet collected.
-use Rattle.std.proofs.Common.{◌≡◌, ℕ, ◌/◌, ◌<◌, ◌≤◌, true, false, not, eqb, ◌⊎◌, List, [], ◌∷◌, ◌++◌, length, get_or, take, Some, None, Option, sym, refl, ap, ◌∙◌, subst, inl, inr, arith, take-suc, is_some, unwrap_or}
+use Rattle.std.proofs.Common.{◌≡◌, ℕ, ◌+◌, ◌/◌, ◌<◌, ◌≤◌, true, false, not, eqb, ◌⊎◌, List, [], ◌∷◌, ◌++◌, length, get_or, take, Some, None, Option, sym, refl, ap, ◌∙◌, subst, inl, inr, arith, take-suc, add-one, is_some, unwrap_or}
 use Rattle.std.specs.List.{AllByRecursion}
 use Rattle.std.proofs.SliceLists.{all_by_recursion_push}
 use Rattle.fabric.proofs.Pigeons.{Distinct}
@@ -7,6 +7,7 @@ use mathlib.Core.Path.{transport}
 use lib.Seq.{take-length}
 use Rattle.std.proofs.lemmas.Bool.{eq-eqb, ne_eqb, cases_eq, and_parts, not-true, both_ways}
 use Rattle.std.proofs.lemmas.Option.{same_Some}
+use Rattle.std.proofs.lemmas.List.{length-append}
 use Rattle.fabric.specs.declared.parts.Flit.{Flit}
 use Rattle.fabric.specs.declared.parts.Port.{Port}
 use Rattle.network.specs.Log.{Happening, Log, Packet, packet, size, word, aim, free, sent, received, filled, complete, gathered, waiting, words_of}
@@ -229,6 +230,10 @@ pub words_upto : (f : ℕ → Option ℕ) (m : ℕ) (ws : List ℕ) → m ≤ le
 words_upto f ℕ.zero ws h e = refl
 words_upto f (ℕ.suc m) ws h e =
     (λ j. words_upto f m ws (omega arith) (λ k d. e k (omega arith)) j ++ (e m (omega arith) j ∷ [])) ∙ sym (take-suc ws m 0 h)
+
+pub length_words : (f : ℕ → Option ℕ) (m : ℕ) → length (words_of f m) ≡ m
+length_words f ℕ.zero = refl
+length_words f (ℕ.suc m) = length-append (words_of f m) _ ∙ ap (λ k. k + 1) (length_words f m) ∙ add-one m
 
 -- a complete ticket is open, and its record filled
 pub complete_parts : (t : ℕ) (l : Log) → complete t l ≡ true → (free t l ≡ false) × (filled t (size (packet t l)) l ≡ true)

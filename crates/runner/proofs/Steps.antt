@@ -1,5 +1,5 @@
 -- What each call of a sheet's run brings: the state after it, and the lines that are written of it.
-use Rattle.std.proofs.Common.{◌≡◌, ℕ, zero, suc, ◌+◌, ◌*◌, ◌/◌, ◌%◌, ◌^◌, ◌<◌, ◌≤◌, Bool, true, false, cond, not, ◌||◌, eqb, ltb, leb, ◌⊎◌, List, [], ◌∷◌, ◌++◌, map, length, get_or, take, drop, set, Some, None, Option, sym, refl, ap, ◌∙◌, subst, ap₂, inl, inr, arith}
+use Rattle.std.proofs.Common.{◌≡◌, ℕ, ◌+◌, ◌*◌, ◌/◌, ◌%◌, ◌^◌, ◌<◌, ◌≤◌, Bool, true, false, cond, not, ◌||◌, eqb, ltb, leb, ◌⊎◌, List, [], ◌∷◌, ◌++◌, map, length, get_or, take, drop, set, Some, None, Option, sym, refl, ap, ◌∙◌, subst, ap₂, inl, inr, arith}
 use Rattle.std.specs.List.{AllByRecursion}
 use Rattle.std.proofs.lemmas.Nat.{div_below, mod_below, div-add-mod'}
 use Rattle.std.proofs.lemmas.List.{length-append, length-set, get_or-set_same, get_or-set_other, take-append-le, take_all}
@@ -10,7 +10,7 @@ use Rattle.line.specs.Queues.{Queue, Sound, contents, free_places}
 use Rattle.bounds.specs.declared.settings.Settings.{Settings}
 use Rattle.bounds.specs.SetUp.{all_tickets, set_up_verdict}
 use Rattle.network.specs.declared.event.Event.{Event}
-use Rattle.network.specs.Log.{Log, Packet as Load, packet, size, aim, free, complete, gathered}
+use Rattle.network.specs.Log.{Log, Packet as Load, packet, size, aim, free, received, complete}
 use Rattle.network.specs.Log.Happening.{offered, entered, off, collected}
 use Rattle.network.specs.Cycle.{Fabric, State, happened}
 use Rattle.network.specs.Runs.{Call, Outcome, Serves, Leads, ticket, missing, offer_verdict, cycle_verdict, collect_verdict, collection, with_log, told, count_off, over}
@@ -21,6 +21,7 @@ use Rattle.network.specs.Runs.Leads.{one_more}
 use Rattle.network.specs.Promises.{puts, Kept}
 use Rattle.network.proofs.Invariant.{Inv, Opened}
 use Rattle.network.proofs.Running.{peel, invariant}
+use Rattle.network.proofs.Offering.{length_words}
 use Rattle.network.proofs.Solving.{led_one, all_told}
 use Rattle.network.proofs.Seen.{seen}
 use Rattle.calls.specs.declared.tables.Tables.{Tables}
@@ -55,12 +56,6 @@ narrow_at (entered f n ∷ l) older u p h = narrow_at l older u p h
 narrow_at (off f n c ∷ l) older u p h = narrow_at l older u p h
 narrow_at (collected x r ws ∷ l) older u p h = narrow_at l older u p h
 
-length_gathered : (u m : ℕ) (l : Log) → length (gathered u m l) ≡ m
-length_gathered u zero l = refl
-length_gathered u (suc m) l =
-    let h = length_gathered u m l in
-    length-append (gathered u m l) _ ∙ omega arith
-
 -- a collection that was granted: what it does, that its ticket is complete, and the words that it brings
 module _ (F : Fabric) (P : Settings) where
   pub collect_did : {s : State} {d n m k : ℕ} {memory m' : List ℕ} {r : State} → Serves F P s (collect d n m memory) (collecting (granted k) m') r →
@@ -83,7 +78,7 @@ module _ (F : Fabric) (P : Settings) where
         let u = ticket F P n m in
         let ws = collection F P s u in
         let exact = collect_tested.1 in
-        let long = length_gathered u (size (packet u s.log)) s.log in
+        let long = length_words (λ j. received u j s.log) (size (packet u s.log)) in
         ap (take k) (collect_did v).1.0 ∙ take-append-le k ws (drop (length ws) memory) (omega (arith, exact, long)) ∙ take_all k ws (omega (arith, exact, long))
 
 -- no listing comes near the end of its memory
@@ -436,7 +431,7 @@ module _ (F : Fabric) (P : Settings) (law : Lawful F.plan) {M : List ℕ} {i : T
       tested = collect_tested F P y.serves
 
       long : length ws ≡ size (packet u s.log)
-      long = length_gathered u (size (packet u s.log)) s.log
+      long = length_words (λ j. received u j s.log) (size (packet u s.log))
 
       taken : take k m' ≡ ws
       taken = collect_taken F P y.serves
