@@ -1,5 +1,5 @@
 -- Every run of every network that set-up accepts keeps the promises.
-use Rattle.std.proofs.Common.{◌≡◌, ℕ, ◌+◌, ◌*◌, ◌<◌, ◌≤◌, ◌||◌, ltb, ◌⊎◌, List, ◌++◌, Some, sym, refl, ap, ◌∙◌, subst, inl, inr, mul-le-mul_right, arith, eqb}
+use Rattle.std.proofs.Common.{◌≡◌, ℕ, ◌+◌, ◌*◌, ◌<◌, ◌≤◌, ◌||◌, ltb, ◌⊎◌, List, ◌++◌, Some, sym, refl, ap, ◌∙◌, subst, subst₂, inl, inr, mul-le-mul_right, arith, eqb}
 use Rattle.std.proofs.lemmas.Bool.{or_parts, ltb-false}
 use Rattle.std.proofs.lemmas.Option.{same_Some}
 use Rattle.fabric.specs.declared.parts.Flit.{Flit}
@@ -57,9 +57,6 @@ accepted p P e =
       narrow = let z : P.seed ≤ 65535 = ltb-false 65535 P.seed seed.1 in omega arith;
     }
 
-both : (R : State → State → Type 0) {a b c d : State} → a ≡ b → c ≡ d → R a c → R b d
-both R {a} {b} {c} {d} e f x = subst (R b) f (subst (λ (y : State). R y c) e x)
-
 module _ (F : Fabric) (law : Lawful F.plan) where
   -- a flit that was in a slot once, and is in none now, was taken off
   off_since : (P : Settings) (earlier more : List Call) (n : ℕ) (p : Port) (f : Flit) → (after F P earlier).slot n p ≡ Some f →
@@ -110,11 +107,11 @@ module _ (F : Fabric) (law : Lawful F.plan) where
       let b : s ≡ after F P (e.more ++ e.earlier) = led_one F P law e.led_late ∙ ap (λ (x : List Call). after F P x) e.split in
       let a' : early' ≡ after F Q e'.earlier = led_one F Q law e'.led_early in
       let b' : r ≡ after F Q (e'.more ++ e'.earlier) = led_one F Q law e'.led_late ∙ ap (λ (x : List Call). after F Q x) e'.split in
-      both (λ x y. Together x y f g) (sym b) (sym b')
+      subst₂ (λ (x y : State). Together x y f g) (sym b) (sym b')
       (undisturbed sw P Q epochs e.earlier e.more e'.earlier e'.more t
-      (subst (Begins F P t) a e.begins) (subst (Begins F Q t) a' e'.begins) (both (Alike t) a a' alike) k e.within
-      (both (λ x y. y.cycles ≡ x.cycles + k) a b e.passed) (both (λ x y. y.cycles ≡ x.cycles + k) a' b' e'.passed)
-      (both (NoneEntered t) a b e.none_entered) (both (NoneEntered t) a' b' e'.none_entered)
+      (subst (Begins F P t) a e.begins) (subst (Begins F Q t) a' e'.begins) (subst₂ (Alike t) a a' alike) k e.within
+      (subst₂ (λ (x y : State). y.cycles ≡ x.cycles + k) a b e.passed) (subst₂ (λ (x y : State). y.cycles ≡ x.cycles + k) a' b' e'.passed)
+      (subst₂ (NoneEntered t) a b e.none_entered) (subst₂ (NoneEntered t) a' b' e'.none_entered)
       n p f g (subst (λ (x : State). x.slot n p ≡ Some f) a u) golden (subst (λ (x : State). x.slot n p ≡ Some g) a' v))
 
 module _ (F : Fabric) (P : Settings) (law : Lawful F.plan) (sw : LawfulSwitch F.turn) (set_up : set_up_verdict F.plan P ≡ granted tt) (run : List Call) where
