@@ -2,6 +2,7 @@
 use Rattle.std.proofs.Common.{◌≡◌, ℕ, ◌<◌, ◌≤◌, Bool, true, false, cond, not, ◌&&◌, ◌||◌, eqb, ltb, leb, ◌⊎◌, List, [], ◌∷◌, ◌++◌, length, get_or, map, min, is_some, Some, None, Option, sym, refl, ap, ◌∙◌, subst, inl, inr, arith, unwrap_or}
 use lib.Arith.{digits_lt}
 use Rattle.std.proofs.lemmas.Bool.{le-leb, lt-leb, le-ltb, lt-ltb, eq-eqb, ne_eqb, or_left, or_right, or_from, cond-true, cond-false}
+use Rattle.std.proofs.lemmas.Option.{cond_some}
 use Rattle.fabric.specs.Layouts.{Lawful}
 use Rattle.fabric.specs.Verdicts.{Verdict}
 use Rattle.fabric.specs.Verdicts.Verdict.{granted, refused}
@@ -58,11 +59,7 @@ both false b e = sym e
 -- a packet that the code finds is there, complete, and goes to the node
 found : (o : Option Ticket) (r : ℕ) (p : Ticket) → arrived o r ≡ Some p → o ≡ Some p
 found None r p e = cc
-found (Some q) r p e = go (all_in q.received (min q.size 4) && eqb q.destination r) e
-  where
-    go : (b : Bool) → cond b (Some q) None ≡ Some p → Some q ≡ Some p
-    go true e = e
-    go false e = cc
+found (Some q) r p e = ap Some (cond_some _ q p e).1
 
 arrives : (o : Option Ticket) (t r : ℕ) (l : Log) → Entry o t l → is_some (arrived o r) ≡ (complete t l && eqb (aim (packet t l)) r)
 arrives None t r l e = sym (ap (λ b. (b && filled t (size (packet t l)) l) && eqb (aim (packet t l)) r) (sym e.opened))
