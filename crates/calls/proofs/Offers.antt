@@ -18,7 +18,7 @@ use Rattle.network.specs.Runs.{ticket, missing, offer_verdict, with_log}
 use Rattle.network.specs.Runs.Call.{offer}
 use Rattle.network.specs.Runs.Outcome.{offering}
 use Rattle.network.specs.Computed.{decided}
-use Rattle.network.proofs.Invariant.{all_map, Waits as Waiting, Inv}
+use Rattle.network.proofs.Invariant.{all_weaker, Waits as Waiting, Inv}
 use Rattle.calls.specs.declared.tables.Tables.{Tables}
 use Rattle.calls.specs.declared.ticket.Ticket.{Ticket}
 use Rattle.calls.specs.Records.{all_waiting, waiting_at, Accepts}
@@ -44,8 +44,8 @@ pub room : (P : Settings) (l : Log) (n t : ℕ) (xs : List ℕ) → 0 < P.ticket
 room P l n t xs p e f ws d =
     let T = P.tickets in
     few T (n * T) (t ∷ xs)
-    (own_range T n t p e, all_map _ _ (λ x w. own_range T n x p w.node) xs ws)
-    (all_map _ _ (λ x w q. both_ways (free x l) w.open_ticket (ap (λ y. free y l) (sym q) ∙ f)) xs ws, d)
+    (own_range T n t p e, all_weaker _ _ (λ x w. own_range T n x p w.node) xs ws)
+    (all_weaker _ _ (λ x w q. both_ways (free x l) w.open_ticket (ap (λ y. free y l) (sym q) ∙ f)) xs ws, d)
 
 module _ (F : Fabric) (i : Tables) (n o d : ℕ) (ws : List ℕ) where
   abbrev P : Settings

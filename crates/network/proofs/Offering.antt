@@ -18,7 +18,7 @@ use Rattle.network.specs.Cycle.{Fabric, State}
 use Rattle.network.specs.Promises.{Stands, OffOnce, NeverOff, InOneSlot, InNoSlot, OfPacket, OfferedLast}
 use Rattle.network.proofs.Stand.{stands_later, stands_cases, stands_older, none_stands, Other, never_more, once_more}
 use Rattle.network.proofs.Places.{some_none}
-use Rattle.network.proofs.Invariant.{Sits, Opened, Waits, Inv, all_map, distinct_push}
+use Rattle.network.proofs.Invariant.{Sits, Opened, Waits, Inv, all_weaker, distinct_push}
 
 -- no flit moves
 abbrev pub Quiet : Happening → Type 0
@@ -131,12 +131,12 @@ module _ (F : Fabric) (P : Settings) (s : State) (N : ℕ) (i : Inv F P s N) (u 
     where
       old : AllByRecursion (Waits P log_o n) (waiting P.tickets n s.log)
       old =
-          all_map (Waits P s.log n) (Waits P log_o n)
+          all_weaker (Waits P s.log n) (Waits P log_o n)
           (λ v w. let h = ne_eqb v u (apart v w.open_ticket) in record { node = w.node; open_ticket = rw h w.open_ticket; more = rw h w.more })
           (waiting P.tickets n s.log) (i.queue n)
 
       differ : AllByRecursion (λ v. v ≡ u → ⊥) (waiting P.tickets n s.log)
-      differ = all_map (Waits P s.log n) (λ v. v ≡ u → ⊥) (λ v w. apart v w.open_ticket) (waiting P.tickets n s.log) (i.queue n)
+      differ = all_weaker (Waits P s.log n) (λ v. v ≡ u → ⊥) (λ v w. apart v w.open_ticket) (waiting P.tickets n s.log) (i.queue n)
 
       go : (u / P.tickets ≡ n) ⊎ (u / P.tickets ≡ n → ⊥) → AllByRecursion (Waits P log_o n) (waiting P.tickets n log_o) × Distinct (waiting P.tickets n log_o)
       go (inl e) =
@@ -269,7 +269,7 @@ module _ (F : Fabric) (P : Settings) (s : State) (N : ℕ) (i : Inv F P s N) (u 
 
   queue_c : (n : ℕ) → AllByRecursion (Waits P log_c n) (waiting P.tickets n log_c) × Distinct (waiting P.tickets n log_c)
   queue_c n = (
-    all_map (Waits P s.log n) (Waits P log_c n)
+    all_weaker (Waits P s.log n) (Waits P log_c n)
         (λ v w. let h = ne_eqb v u (arrived v (sent v s.log) w.more (i.unsent v (sent v s.log) w.open_ticket (omega arith))) in
         record { node = w.node; open_ticket = rw h w.open_ticket; more = w.more })
         (waiting P.tickets n s.log) (i.queue n),
