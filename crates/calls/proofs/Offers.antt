@@ -55,14 +55,14 @@ module _ (F : Fabric) (i : Tables) (n o d : ℕ) (ws : List ℕ) where
   refuses k h =
       nothing_done (λ s sh.
       let e = h s sh in
-      (ap offering (sym e), ap (λ (v : Verdict (Unit {0})). decided v (with_log F P s (offered (ticket F P n o) (record { destination = d; words = ws }))) s) e))
+      (ap offering (sym e), ap (λ (v : Verdict (Unit {0})). decided v (with_log s (offered (ticket P n o) (record { destination = d; words = ws }))) s) e))
 
   pub no_node : (F.plan.nodes ≤ n) ⊎ (P.tickets ≤ o) → Works F i i (offer n o d ws) (offering (refused 4 []))
   no_node (inl h) = refuses 4 (λ s sh. cond-true _ _ _ (or_left _ _ (le-leb F.plan.nodes n h)))
   no_node (inr h) = refuses 4 (λ s sh. cond-true _ _ _ (or_right _ _ (le-leb P.tickets o h)))
 
   module _ (hn : n < F.plan.nodes) (ho : o < P.tickets) where
-    first : {A : Type 0} (x y : A) → cond (missing F P n || leb P.tickets o) x y ≡ y
+    first : {A : Type 0} (x y : A) → cond (missing F n || leb P.tickets o) x y ≡ y
     first x y = cond-false _ _ _ (or_from _ _ (lt-leb F.plan.nodes n hn) (lt-leb P.tickets o ho))
 
     pub no_destination : (F.plan.nodes ≤ d) ⊎ (d ≡ n) → Works F i i (offer n o d ws) (offering (refused 5 []))
@@ -70,7 +70,7 @@ module _ (F : Fabric) (i : Tables) (n o d : ℕ) (ws : List ℕ) where
     no_destination (inr h) = refuses 5 (λ s sh. first _ _ ∙ cond-true _ _ _ (or_right _ _ (eq-eqb d n h)))
 
     module _ (hd : d < F.plan.nodes) (ne : d ≡ n → ⊥) where
-      second : {A : Type 0} (x y : A) → cond (missing F P d || eqb d n) x y ≡ y
+      second : {A : Type 0} (x y : A) → cond (missing F d || eqb d n) x y ≡ y
       second x y = cond-false _ _ _ (or_from _ _ (lt-leb F.plan.nodes d hd) (ne_eqb d n ne))
 
       pub no_words : (length ws ≡ 0) ⊎ (P.words < length ws) → Works F i i (offer n o d ws) (offering (refused 6 []))
@@ -79,7 +79,7 @@ module _ (F : Fabric) (i : Tables) (n o d : ℕ) (ws : List ℕ) where
 
       module _ (some : length ws ≡ 0 → ⊥) (few_words : length ws ≤ P.words) where
         abbrev t : ℕ
-        t = ticket F P n o
+        t = ticket P n o
 
         third : {A : Type 0} (x y : A) → cond (eqb (length ws) 0 || ltb P.words (length ws)) x y ≡ y
         third x y = cond-false _ _ _ (or_from _ _ (ne_eqb (length ws) 0 some) (le-ltb P.words (length ws) few_words))
@@ -162,7 +162,7 @@ module _ (F : Fabric) (i : Tables) (n o d : ℕ) (ws : List ℕ) where
               record {
                 does = λ s led sh.
                     let e = verdict s sh in
-                    let then = with_log F P s (offered t p) in
+                    let then = with_log s (offered t p) in
                     let shows : Shows F j then = logged F i j s (offered t p) a.keeps sh (records s sh) (queued s (invariant F P law s led) sh) in
                     record {
                       exact = ap offering (sym e);

@@ -81,7 +81,7 @@ invariant F P law s r = subst (λ (x : State). Inv F P x 0) (sym (led_one F P la
 
 -- one more thing happened, of which tickets and queues tell
 pub logged : (F : Fabric) (i j : Tables) (s : State) (h : Happening) → Keeps i j → Shows F i s → Records (all_tickets F.plan i.settings) j.tickets (h ∷ s.log) →
-    Queued F.plan.nodes i.settings.tickets (all_waiting j) (h ∷ s.log) → Shows F j (with_log F i.settings s h)
+    Queued F.plan.nodes i.settings.tickets (all_waiting j) (h ∷ s.log) → Shows F j (with_log s h)
 logged F i j s h k sh rs qs =
     record {
       cycles = k.cycles ∙ sh.cycles;

@@ -15,6 +15,7 @@ use Rattle.network.specs.Log.Happening.{offered, entered, off, collected}
 use Rattle.bounds.specs.declared.settings.Settings.{Settings}
 use Rattle.bounds.specs.SetUp.{all_tickets}
 use Rattle.network.specs.Cycle.{Fabric, State}
+use Rattle.network.specs.Runs.{collection}
 use Rattle.network.specs.Promises.{Stands, OffOnce, NeverOff, InOneSlot, InNoSlot, OfPacket, OfferedLast}
 use Rattle.network.proofs.Stand.{stands_later, stands_cases, stands_older, none_stands, Other, never_more, once_more}
 use Rattle.network.proofs.Places.{some_none}
@@ -243,7 +244,7 @@ complete_parts t l whole =
 module _ (F : Fabric) (P : Settings) (s : State) (N : ℕ) (i : Inv F P s N) (u r : ℕ)
     (whole : complete u s.log ≡ true) (at_home : aim (packet u s.log) ≡ r) where
   abbrev ws_c : List ℕ
-  ws_c = gathered u (size (packet u s.log)) s.log
+  ws_c = collection s u
 
   abbrev log_c : Log
   log_c = collected u r ws_c ∷ s.log

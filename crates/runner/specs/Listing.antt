@@ -66,7 +66,7 @@ module _ (F : Fabric) (P : Settings) where
   pub data Collects (c : ℕ) (s : State) : ℕ → State → List (List Field) → Type 0 where
     none : Collects c s 0 s []
     brought : {g n o k : ℕ} {r t : State} {ls : List (List Field)} {memory written : List ℕ} → Collects c s g r ls →
-        complete g r.log ≡ true → ticket F P n o ≡ g →
+        complete g r.log ≡ true → ticket P n o ≡ g →
         Serves F P r (collect (aim (packet g r.log)) n o memory) (collecting (granted k) written) t →
         Collects c s (g + 1) t (ls ++ done_line c g (take k written) ∷ [])
     left : {g : ℕ} {r : State} {ls : List (List Field)} → Collects c s g r ls → complete g r.log ≡ false → Collects c s (g + 1) r ls
