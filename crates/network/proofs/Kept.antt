@@ -86,7 +86,7 @@ module _ (F : Fabric) (law : Lawful F.plan) where
       (n : ℕ) (p : Port) (f g : Flit) → (after F P earlier).slot n p ≡ Some f → f.ticket ≡ t → (after F Q earlier').slot n p ≡ Some g →
       Together (after F P (more ++ earlier)) (after F Q (more' ++ earlier')) f g
   undisturbed sw P Q epochs earlier more earlier' more' t begins begins' alike k small c c' h h' n p f g u golden v =
-      go (follow F P Q law sw epochs earlier earlier' t begins begins' f g golden golden' (alike.0, alike.1, inl (n, p, u, v)) more more' k small c c' h h').2
+      go (follow F P Q law sw epochs earlier earlier' t begins begins' f g golden golden' (alike, inl (n, p, u, v)) more more' k small c c' h h').1
     where
       golden' : g.ticket ≡ t
       golden' =
@@ -94,7 +94,7 @@ module _ (F : Fabric) (law : Lawful F.plan) where
           let w : z.0 ≡ g = same_Some z.0 g (sym z.1 ∙ v) in
           sym (ap (λ (x : Flit). x.ticket) w) ∙ z.2
 
-      go : Tied f g (after F P (more ++ earlier)).slot (after F Q (more' ++ earlier')).slot → Together (after F P (more ++ earlier)) (after F Q (more' ++ earlier')) f g
+      go : Tied (after F P (more ++ earlier)) (after F Q (more' ++ earlier')) f g → Together (after F P (more ++ earlier)) (after F Q (more' ++ earlier')) f g
       go (inl z) = inl z
       go (inr z) = inr (off_since P earlier more n p f u z.0, off_since Q earlier' more' n p g v z.1)
 
