@@ -11,7 +11,7 @@ use Rattle.runner.specs.Answering.{made_of, Ran}
 use Rattle.runner.specs.Tallies.{Tallied}
 use Rattle.runner.specs.Progress.{Left}
 use Rattle.runner.proofs.Beginning.{at_first, all_left, ran}
-use Rattle.runner.proofs.Fabrics.{same_fabric, then_same}
+use Rattle.calls.proofs.Fabrics.{same_fabric, then_same}
 use Rattle.runner.proofs.list.start.Goals as goal
 use Rattle.runner.proofs.list.start.Goals.{After-play-arg-1}
 

@@ -1,8 +1,9 @@
-use Rattle.std.proofs.Common.{ℕ, ◌∷◌, refl, ◌∙◌, subst, subst₂}
+use Rattle.std.proofs.Common.{ℕ, ◌∷◌, refl, ◌∙◌, subst}
 use Rattle.std.proofs.Math.Numerals.{suc-eq-add-one}
 use Rattle.fabric.specs.Refusals.{shown}
 use Rattle.bounds.specs.declared.settings.Settings.{Settings}
 use Rattle.line.specs.Lines.{queue_of}
+use Rattle.network.specs.Cycle.{Fabric}
 use Rattle.calls.specs.Networks.{fabric_of}
 use Rattle.network.specs.Runs.{Serves}
 use Rattle.network.specs.Runs.Call.{cycle}
@@ -10,6 +11,7 @@ use Rattle.network.specs.Runs.Outcome.{cycling}
 use Rattle.network.specs.Promises.{Kept}
 use Rattle.network.proofs.Kept.{kept}
 use Rattle.calls.specs.Follow.{Promised}
+use Rattle.calls.proofs.Fabrics.{same_fabric, then_same}
 use Rattle.uses.specs.History.{Cycled, RanOn}
 use Rattle.uses.specs.History.Cycled.{none, one_more}
 use Rattle.uses.proofs.cycles.run_on.Goals as goal
@@ -40,9 +42,8 @@ loop-preserved g c =
     let u = queue_of c.loop.line in
     let v = queue_of c.cycle.new.line in
     let a = shown c.cycle.result in
-    let promise = subst₂ (λ (x : g.row.L.Denot) (y : g.row.S.Denot).
-    Promised (record { plan = g.L.Layout.plan x; turn = g.S.Switch.turn y }) c.loop.network.inner c.cycle.new.self.inner (cycle u) (cycling a v)) i.0.0 i.0.1 e.promised in (
-      (e.parts.0 ∙ i.0.0, e.parts.1 ∙ i.0.1),
+    let promise = subst (λ (G : Fabric). Promised G c.loop.network.inner c.cycle.new.self.inner (cycle u) (cycling a v)) (same_fabric g.L.Layout.plan g.S.Switch.turn i.0) e.promised in (
+      then_same i.0 e.parts,
       e.lender ∙ i.1,
       λ run s f.
           let h : RanOn F n.inner c.loop.network.inner c.loop.counter run s q u = i.2 run s f in

@@ -1,11 +1,13 @@
-use Rattle.std.proofs.Common.{ℕ, ◌+◌, ◌*◌, replicate, None, refl, ap, ◌∙◌, subst, subst₂, rules, arith}
+use Rattle.std.proofs.Common.{ℕ, ◌+◌, ◌*◌, replicate, None, refl, ap, ◌∙◌, subst, rules, arith}
 use Rattle.std.proofs.lemmas.List.{length-take-le}
 use Rattle.line.specs.Lines.{queue_of}
 use Rattle.clock.specs.Epochs.{golden_ticket}
+use Rattle.network.specs.Cycle.{Fabric}
 use Rattle.calls.specs.Networks.{fabric_of}
 use Rattle.calls.specs.Records.{Advances}
 use Rattle.calls.specs.Steps.{Unsent}
 use Rattle.calls.specs.Midway.{NodeWorks}
+use Rattle.calls.proofs.Fabrics.{same_fabric, then_same}
 use Rattle.calls.proofs.Stepping.{unsent_all}
 use Rattle.calls.proofs.Promising.{promised, refusing}
 use Rattle.calls.proofs.Rounds.{round_none, round_more, no_cycle, no_room, cycles_on}
@@ -48,12 +50,12 @@ loop-node-preserved g c =
     let w = c.work-off in (
       round_more F s.inner c.loop-node.self.inner w.new.self.inner c.loop-node.node c.golden-golden.result c.loop-node.self.arriving w.new.self.arriving
           (queue_of c.args.line.now) (queue_of c.loop-node.line) (queue_of w.new.line) c.loop-node.off w.result (omega arith) i.0
-          (subst₂ (λ (x : g.row.L.Denot) (y : g.row.S.Denot).
-          NodeWorks (record { plan = g.L.Layout.plan x; turn = g.S.Switch.turn y }) c.loop-node.self.inner w.new.self.inner c.loop-node.node c.golden-golden.result
+          (subst (λ (G : Fabric).
+          NodeWorks G c.loop-node.self.inner w.new.self.inner c.loop-node.node c.golden-golden.result
           c.loop-node.self.arriving w.new.self.arriving (queue_of c.loop-node.line) (queue_of w.new.line) w.result)
-          i.2.0 i.2.1 w.ensures.works),
-      subst (λ (x : g.row.L.Denot). Unsent (g.L.Layout.plan x) (c.loop-node.node + 1) w.new.self.arriving) i.2.0 w.ensures.unsent,
-      (w.ensures.parts.0 ∙ i.2.0, w.ensures.parts.1 ∙ i.2.1),
+          (same_fabric g.L.Layout.plan g.S.Switch.turn i.2) w.ensures.works),
+      subst (λ (G : Fabric). Unsent G.plan (c.loop-node.node + 1) w.new.self.arriving) (same_fabric g.L.Layout.plan g.S.Switch.turn i.2) w.ensures.unsent,
+      then_same i.2 w.ensures.parts,
       w.ensures.lender ∙ i.3,
     )
 
