@@ -1,6 +1,6 @@
 // What a cycle tells of a flit.
 ghost use Rattle.std.specs.Prelude.{◌≡◌, Some};
-ghost use Rattle.network.specs.Kinds.{kind_word};
+ghost use Rattle.network.specs.Kinds.{event_word};
 
 use std::fmt;
 
@@ -15,7 +15,7 @@ pub enum Kind {
 
 impl Kind {
     pub fn word(self) -> &'static str
-        ensures { result.now ≡ kind_word self }
+        ensures { result.now ≡ event_word self }
     {
         match self {
             Kind::In => "in",
@@ -25,7 +25,7 @@ impl Kind {
 }
 
 impl fmt::Display for Kind {
-    ghost output = { λ k. Some (kind_word k) };
+    ghost output = { λ k. Some (event_word k) };
 
     fn fmt<W: fmt::Write>(&self, f: &mut fmt::Formatter<W>) -> fmt::Result {
         f.write_str(self.word())
