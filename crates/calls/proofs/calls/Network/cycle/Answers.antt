@@ -35,29 +35,33 @@ loop-node-init g c =
     let F = fabric_of g.L.Layout.plan g.S.Switch.turn s in
     let law = g.met.L.Layout.lawful s.layout in
     let few = law.few_nodes in
-    let front = length-take-le (4 * c.nodes-nodes.result) s.arriving (omega arith) ∙ ap (λ n. 4 * n) c.nodes-nodes.ensures in (
-      round_none F s.inner c.golden-golden.result _ (queue_of c.args.line.now),
-      unsent_all F.plan law _ _ (c.fill.ensures.after (λ y e. search rules) ∙ ap (λ k. replicate k None) front),
-      (refl, refl),
-      refl,
-    )
+    let front = length-take-le (4 * c.nodes-nodes.result) s.arriving (omega arith) ∙ ap (λ n. 4 * n) c.nodes-nodes.ensures in
+    record {
+      round = round_none F s.inner c.golden-golden.result _ (queue_of c.args.line.now);
+      unsent = unsent_all F.plan law _ _ (c.fill.ensures.after (λ y e. search rules) ∙ ap (λ k. replicate k None) front);
+      parts = (refl, refl);
+      lender = refl;
+    }
 
 pub loop-node-preserved : goal.loop-node-preserved
 loop-node-preserved g c =
     let s = c.args.self.now in
     let F = fabric_of g.L.Layout.plan g.S.Switch.turn s in
     let i = c.loop-node.invariant in
-    let w = c.work-off in (
-      round_more F s.inner c.loop-node.self.inner w.new.self.inner c.loop-node.node c.golden-golden.result c.loop-node.self.arriving w.new.self.arriving
-          (queue_of c.args.line.now) (queue_of c.loop-node.line) (queue_of w.new.line) c.loop-node.off w.result (omega arith) i.0
+    let w = c.work-off in
+    let same = same_fabric g.L.Layout.plan g.S.Switch.turn i.parts in
+    record {
+      round =
+          round_more F s.inner c.loop-node.self.inner w.new.self.inner c.loop-node.node c.golden-golden.result c.loop-node.self.arriving w.new.self.arriving
+          (queue_of c.args.line.now) (queue_of c.loop-node.line) (queue_of w.new.line) c.loop-node.off w.result (omega arith) i.round
           (subst (λ (G : Fabric).
           NodeWorks G c.loop-node.self.inner w.new.self.inner c.loop-node.node c.golden-golden.result
           c.loop-node.self.arriving w.new.self.arriving (queue_of c.loop-node.line) (queue_of w.new.line) w.result)
-          (same_fabric g.L.Layout.plan g.S.Switch.turn i.2) w.ensures.works),
-      subst (λ (G : Fabric). Unsent G.plan (c.loop-node.node + 1) w.new.self.arriving) (same_fabric g.L.Layout.plan g.S.Switch.turn i.2) w.ensures.unsent,
-      then_same i.2 w.ensures.parts,
-      w.ensures.lender ∙ i.3,
-    )
+          same w.ensures.works);
+      unsent = subst (λ (G : Fabric). Unsent G.plan (c.loop-node.node + 1) w.new.self.arriving) same w.ensures.unsent;
+      parts = then_same i.parts w.ensures.parts;
+      lender = w.ensures.lender ∙ i.lender;
+    }
 
 pub returns-clause-promised : goal.returns-clause-promised
 returns-clause-promised g c =
@@ -69,4 +73,5 @@ returns-clause-promised g c =
     promised law (g.met.S.Switch.lawful s.switch)
     (cycles_on F s.inner law q c.if-self-ge-MOST_CYCLES.false (omega arith) c.args.line.now.sound.0 c.loop-node.self.inner c.advance.new.self c.golden-golden.result
     c.loop-node.self.arriving (queue_of c.loop-node.line) c.loop-node.off c.loop-node.node
-    (c.golden-golden.ensures ∙ ap (λ (x : ℕ). golden_ticket (x * s.inner.settings.tickets) s.inner.settings.epoch s.inner.cycles) c.nodes-nodes.ensures) (omega arith) i.0 (subst (λ (m : ℕ). Advances c.loop-node.self.inner c.advance.new.self (4 * m) c.loop-node.self.arriving) c.nodes-nodes.ensures c.advance.ensures)) (λ e. absurd e)
+    (c.golden-golden.ensures ∙ ap (λ (x : ℕ). golden_ticket (x * s.inner.settings.tickets) s.inner.settings.epoch s.inner.cycles) c.nodes-nodes.ensures) (omega arith) i.round
+    (subst (λ (m : ℕ). Advances c.loop-node.self.inner c.advance.new.self (4 * m) c.loop-node.self.arriving) c.nodes-nodes.ensures c.advance.ensures)) (λ e. absurd e)
