@@ -82,11 +82,3 @@ pub record NodeWorks (F : Fabric) (i j : Tables) (n g : ℕ) (before after : Lis
   pub few : off < 2
   pub works : (s : State) (q : Queue Event) (count : ℕ) → Reached F i.settings s → g ≡ golden_in F i.settings s.cycles → u.held + 2 ≤ length u.memory →
       Midway F i.settings s n i before q u count → Midway F i.settings s (n + 1) j after q v (count + off)
-
--- the loop over the nodes, from the tables i
-pub record Round (F : Fabric) (i j : Tables) (n g : ℕ) (arrived : List (Option Flit)) (q r : Queue Event) (off : ℕ) : Type 0 where
-  pub same : j.settings ≡ i.settings
-  pub cycles : j.cycles ≡ i.cycles
-  pub few : off ≤ n
-  pub midway : (s : State) → Reached F i.settings s → g ≡ golden_in F i.settings s.cycles → q.held + 2 * F.plan.nodes ≤ length q.memory → Shows F i s →
-      Midway F i.settings s n j arrived q r off

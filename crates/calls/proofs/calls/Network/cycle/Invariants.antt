@@ -1,6 +1,6 @@
 use Rattle.line.specs.Lines.{queue_of, SameLender}
 use Rattle.calls.specs.Steps.{Unsent}
-use Rattle.calls.specs.Midway.{Round}
+use Rattle.calls.proofs.Rounds.{Round}
 use Rattle.calls.specs.Networks.{fabric_of, SameParts}
 use Rattle.calls.proofs.calls.Network.cycle.Given as goal
 
