@@ -16,7 +16,7 @@ use Rattle.network.specs.Computed.{taken, left, entering, ready, leaving, done}
 use Rattle.calls.specs.declared.tables.Tables.{Tables}
 use Rattle.calls.specs.Records.{all_waiting, Keeps}
 use Rattle.calls.specs.Steps.{far_place, Spread}
-use Rattle.calls.specs.Follow.{slot_of, Records, Queued, Shows}
+use Rattle.calls.specs.Follow.{slot_of, Records, Queued}
 
 -- a run leads to this state
 abbrev pub Reached : Fabric → Settings → State → Type 0

@@ -5,9 +5,8 @@ use Rattle.std.specs.Option.{is_none}
 use Rattle.fabric.specs.declared.parts.Port.TheVariants.{N, E, S, W}
 use Rattle.fabric.specs.declared.parts.Flit.{Flit}
 use Rattle.fabric.specs.Layouts.{Plan}
-use Rattle.fabric.specs.Ports.{place_of, port_of}
+use Rattle.fabric.specs.Ports.{place_of}
 use Rattle.switch.specs.Switches.{at}
-use Rattle.network.specs.Computed.{better}
 
 -- no flit stands at any of the four
 abbrev pub none_at : (Port → Option Flit) → Bool

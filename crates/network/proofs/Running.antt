@@ -3,7 +3,7 @@ use Rattle.std.proofs.Common.{◌≡◌, ℕ, ◌<◌, ◌≤◌, Bool, true, fa
 use Rattle.std.proofs.lemmas.Bool.{eqb-true, eqb-false, leb-false, ltb-false, or_parts, not-false, both_ways}
 use lib.Arith.{digits_lt}
 use Rattle.fabric.specs.Layouts.{Lawful}
-use Rattle.network.specs.Log.{Log, packet, size, aim, free, complete, gathered}
+use Rattle.network.specs.Log.{Log, packet, aim, free, complete}
 use Rattle.network.specs.Log.Happening.{offered, collected}
 use Rattle.fabric.specs.Verdicts.{Verdict}
 use Rattle.bounds.specs.declared.settings.Settings.{Settings}

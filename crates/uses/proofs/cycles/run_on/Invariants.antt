@@ -14,5 +14,5 @@ invariant-loop g l =
       parts : SameParts l.initial.network l.network;
       lender : SameLender l.initial.line l.line;
       ran : (run : List Call) (s : State) → Follows F l.initial.network.inner run s →
-        RanOn F l.initial.network.inner l.network.inner l.counter run s (queue_of l.initial.line) (queue_of l.line);
+          RanOn F l.initial.network.inner l.network.inner l.counter run s (queue_of l.initial.line) (queue_of l.line);
     }
