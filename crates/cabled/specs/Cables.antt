@@ -4,7 +4,7 @@ use Rattle.fabric.specs.declared.parts.Cable.{Cable}
 use Rattle.fabric.specs.declared.parts.Port.{Port}
 use Rattle.fabric.specs.declared.parts.Port.TheVariants.{N}
 use Rattle.fabric.specs.declared.parts.Slot.{Slot}
-use Rattle.fabric.specs.Layouts.{Plan, Leads}
+use Rattle.fabric.specs.Layouts.{Plan, LeadsNearer}
 use Rattle.fabric.specs.Verdicts.{Verdict}
 use Rattle.fabric.specs.Verdicts.Verdict.{granted, refused}
 use Rattle.fabric.specs.Ports.{looked_at}
@@ -32,7 +32,7 @@ Least cs m n d = Walk cs d m n × ((k : ℕ) → Walk cs k m n → d ≤ k)
 
 -- the first port that leads one nearer, and none where the flit has arrived
 abbrev pub Wished : Plan → ℕ → ℕ → Option Port → Type 0
-Wished p m n (Some w) = Leads p m n w × ((v : Port) → looked_at v < looked_at w → Leads p m n v → ⊥)
+Wished p m n (Some w) = LeadsNearer p m n w × ((v : Port) → looked_at v < looked_at w → LeadsNearer p m n v → ⊥)
 Wished p m n None = p.distance m n ≡ 0
 
 -- the layout of k nodes that the cables make

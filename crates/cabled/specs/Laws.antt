@@ -4,7 +4,7 @@ use Rattle.std.proofs.Common.{sym, ◌∙◌, ap, subst, ⊎_elim, arith}
 use Rattle.std.proofs.lemmas.Bool.{lt-ltb, le-ltb, eqb-true, eq-eqb, ne_eqb, cond-true, cond-false, both_ways, cases_eq}
 use Rattle.fabric.specs.declared.parts.Port.{Port}
 use Rattle.fabric.specs.declared.parts.Slot.{Slot}
-use Rattle.fabric.specs.Layouts.{Plan, Lawful, Leads, both}
+use Rattle.fabric.specs.Layouts.{Plan, Lawful, LeadsNearer, both}
 use Rattle.fabric.specs.Grid.{both_in, both_out}
 use Rattle.fabric.specs.Places.{Pick, pick}
 use Rattle.cabled.specs.Cables.{Wished}
@@ -46,12 +46,12 @@ module _ (k : ℕ) (ts : List (Option Slot)) (ds : List (List ℕ)) (r : ℕ) wh
       next_in : plan.far m w ≡ next
       next_in = far_in (record { node = m; port = w }) p
 
-      leads_from : leads ts ds m n w ≡ true → Leads plan m n w
+      leads_from : leads ts ds m n w ≡ true → LeadsNearer plan m n w
       leads_from e =
           let l = (paired (record { node = m; port = w }) p).0 in
           subst Nearer (sym next_in) (l, omega (arith, distance_in m n p q, distance_in next.node n l q, eqb-true _ _ e))
 
-      leads_to : Leads plan m n w → leads ts ds m n w ≡ true
+      leads_to : LeadsNearer plan m n w → leads ts ds m n w ≡ true
       leads_to h = let g = subst Nearer next_in h in eq-eqb _ _ (omega (arith, g.1, distance_in m n p q, distance_in next.node n g.0 q))
 
     pub wished : (m n : ℕ) → m < k → n < k → Wished plan m n (plan.wish m n)
@@ -71,10 +71,10 @@ module _ (k : ℕ) (ts : List (Option Slot)) (ds : List (List ℕ)) (r : ℕ) wh
         go (Some w) e h = absurd (omega (arith, h.0.1))
         go None e h = e
 
-    nearer : (m n : ℕ) → m < k → n < k → (plan.distance m n ≢ 0) → (w : Port) × (plan.wish m n ≡ Some w) × Leads plan m n w
+    nearer : (m n : ℕ) → m < k → n < k → (plan.distance m n ≢ 0) → (w : Port) × (plan.wish m n ≡ Some w) × LeadsNearer plan m n w
     nearer m n p q z = go (plan.wish m n) refl (wished m n p q)
       where
-        go : (o : Option Port) → plan.wish m n ≡ o → Wished plan m n o → (w : Port) × (plan.wish m n ≡ Some w) × Leads plan m n w
+        go : (o : Option Port) → plan.wish m n ≡ o → Wished plan m n o → (w : Port) × (plan.wish m n ≡ Some w) × LeadsNearer plan m n w
         go (Some w) e h = (w, e, h.0)
         go None e h = absurd (z h)
 

@@ -2,6 +2,7 @@
 use Rattle.std.proofs.Common.{◌≡◌, ℕ, ◌<◌, ◌≤◌, Bool, true, false, cond, not, ◌&&◌, ◌||◌, eqb, ltb, leb, ◌⊎◌, List, [], ◌∷◌, ◌++◌, length, get_or, map, min, is_some, Some, None, Option, sym, refl, ap, ◌∙◌, subst, inl, inr, arith, unwrap_or}
 use lib.Arith.{digits_lt}
 use Rattle.std.proofs.lemmas.Bool.{le-leb, lt-leb, le-ltb, lt-ltb, eq-eqb, ne_eqb, or_left, or_right, or_from, cond-true, cond-false}
+use Rattle.std.proofs.lemmas.Option.{cond_some}
 use Rattle.fabric.specs.Layouts.{Lawful}
 use Rattle.fabric.specs.Verdicts.{Verdict}
 use Rattle.fabric.specs.Verdicts.Verdict.{granted, refused}
@@ -11,13 +12,13 @@ use Rattle.bounds.specs.SetUp.{all_tickets}
 use Rattle.network.specs.Log.{Log, packet, size, aim, free, received, filled, complete, gathered, all_held, words_of}
 use Rattle.network.specs.Log.Happening.{collected}
 use Rattle.network.specs.Cycle.{Fabric, State}
-use Rattle.network.specs.Runs.{ticket, missing, collect_verdict, with_log, over}
+use Rattle.network.specs.Runs.{ticket, missing, collection, collect_verdict, with_log, over}
 use Rattle.network.specs.Runs.Call.{collect}
 use Rattle.network.specs.Runs.Outcome.{collecting}
 use Rattle.network.specs.Computed.{decided}
 use Rattle.calls.specs.declared.tables.Tables.{Tables}
 use Rattle.calls.specs.declared.ticket.Ticket.{Ticket}
-use Rattle.calls.specs.Records.{all_in, values, arrived, lines, Frees}
+use Rattle.calls.specs.Records.{all_in, values, arrived, all_waiting, Frees}
 use Rattle.calls.specs.Follow.{Shows, Recorded, Entry, Records, Queued}
 use Rattle.calls.proofs.Promising.{Works, nothing_done}
 use Rattle.calls.proofs.Setting.{ticket_below}
@@ -58,11 +59,7 @@ both false b e = sym e
 -- a packet that the code finds is there, complete, and goes to the node
 found : (o : Option Ticket) (r : ℕ) (p : Ticket) → arrived o r ≡ Some p → o ≡ Some p
 found None r p e = cc
-found (Some q) r p e = go (all_in q.received (min q.size 4) && eqb q.destination r) e
-  where
-    go : (b : Bool) → cond b (Some q) None ≡ Some p → Some q ≡ Some p
-    go true e = e
-    go false e = cc
+found (Some q) r p e = ap Some (cond_some _ q p e).1
 
 arrives : (o : Option Ticket) (t r : ℕ) (l : Log) → Entry o t l → is_some (arrived o r) ≡ (complete t l && eqb (aim (packet t l)) r)
 arrives None t r l e = sym (ap (λ b. (b && filled t (size (packet t l)) l) && eqb (aim (packet t l)) r) (sym e.opened))
@@ -81,19 +78,19 @@ module _ (F : Fabric) (i : Tables) (r n o : ℕ) (memory : List ℕ) where
   P = i.settings
 
   abbrev t : ℕ
-  t = ticket F P n o
+  t = ticket P n o
 
   abbrev its : Option Ticket
   its = get_or i.tickets t None
 
   abbrev then : State → State
-  then s = with_log F P s (collected t r (gathered t (size (packet t s.log)) s.log))
+  then s = with_log s (collected t r (collection s t))
 
   refuses : (k : ℕ) → ((s : State) → Shows F i s → collect_verdict F P s r n o memory ≡ refused k []) → Works F i i (collect r n o memory) (collecting (refused k []) memory)
   refuses k h =
       nothing_done (λ s sh.
       let e = h s sh in (
-        ap (λ (v : Verdict ℕ). collecting v (decided v (over (gathered t (size (packet t s.log)) s.log) memory) memory)) (sym e),
+        ap (λ (v : Verdict ℕ). collecting v (decided v (over (collection s t) memory) memory)) (sym e),
         ap (λ (v : Verdict ℕ). decided v (then s) s) e,
       ))
 
@@ -103,7 +100,7 @@ module _ (F : Fabric) (i : Tables) (r n o : ℕ) (memory : List ℕ) where
   no_node (inr (inr h)) = refuses 4 (λ s sh. cond-true _ _ _ (or_right _ _ (le-leb P.tickets o h)))
 
   module _ (hr : r < F.plan.nodes) (hn : n < F.plan.nodes) (ho : o < P.tickets) where
-    first : {A : Type 0} (x y : A) → cond (missing F P r || missing F P n || leb P.tickets o) x y ≡ y
+    first : {A : Type 0} (x y : A) → cond (missing F r || missing F n || leb P.tickets o) x y ≡ y
     first x y = cond-false _ _ _ (or_from _ _ (or_from _ _ (lt-leb F.plan.nodes r hr) (lt-leb F.plan.nodes n hn)) (lt-leb P.tickets o ho))
 
     own : t < all_tickets F.plan P
@@ -148,8 +145,8 @@ module _ (F : Fabric) (i : Tables) (r n o : ℕ) (memory : List ℕ) where
             record {
               does = λ s led sh.
                   let e = verdict s sh in
-                  let ws = gathered t (size (packet t s.log)) s.log in
-                  let queued : Queued F.plan.nodes P.tickets (lines j) s.log = subst (λ (xs : List (List ℕ)). Queued F.plan.nodes P.tickets xs s.log) (sym (ap (map items) f.waits)) sh.queued in
+                  let ws = collection s t in
+                  let queued : Queued F.plan.nodes P.tickets (all_waiting j) s.log = subst (λ (xs : List (List ℕ)). Queued F.plan.nodes P.tickets xs s.log) (sym (ap (map items) f.waits)) sh.queued in
                   let shows : Shows F j (then s) = logged F i j s (collected t r ws) f.keeps sh (records s sh ws) queued in
                   record {
                     exact =

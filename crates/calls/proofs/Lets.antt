@@ -25,7 +25,7 @@ use Rattle.network.proofs.Invariant.{Inv, Opened, Waits as Waiting}
 use Rattle.network.proofs.Places.{some_none, at_ordered}
 use Rattle.calls.specs.declared.ticket.Ticket.{Ticket}
 use Rattle.calls.specs.declared.tables.Tables.{Tables}
-use Rattle.calls.specs.Records.{lines, line_at, Keeps, LetsGo, LetsIn}
+use Rattle.calls.specs.Records.{all_waiting, waiting_at, Keeps, LetsGo, LetsIn}
 use Rattle.calls.specs.Follow.{Recorded, Entry, Records, Queued}
 use Rattle.calls.specs.Midway.{Reached, Between, Own, Let}
 use Rattle.calls.proofs.Showing.{like, change, entry_more, entered_in, get_or_some, invariant}
@@ -63,8 +63,8 @@ module _ (F : Fabric) (i : Tables) (s : State) (l : Log) (n : ℕ) (law : Lawful
       (ap (λ g. placed F P s g (next_of F P s (waiting T n s.log))) (sym same_gap ∙ e))
 
   module _ (p : Port) (g : gap (at places) ≡ Some p) (j : Tables) (o : Option Flit) (lets : LetsIn i j n o) where
-    line_is : line_at i n ≡ waiting T n s.log
-    line_is = b.queued n h ∙ own.line
+    waiting_is : waiting_at i n ≡ waiting T n s.log
+    waiting_is = b.queued n h ∙ own.waits
 
     enters_by : (xs : List ℕ) → waiting T n s.log ≡ xs → entering F P s n ≡ placed F P s (Some p) (next_of F P s xs)
     unfolding entering
@@ -95,7 +95,7 @@ module _ (F : Fabric) (i : Tables) (s : State) (l : Log) (n : ℕ) (law : Lawful
         small = let a = waits.more in let c = opened.short in let d = i.fits.short in let f = sent_is in omega arith
 
         goes : LetsGo i j n t r o
-        goes = lets.some t ts r (line_is ∙ e) there
+        goes = lets.some t ts r (waiting_is ∙ e) there
 
         abbrev flit : Flit
         flit = record { ticket = t; number = sent t s.log; destination = aim (packet t s.log); word = word (packet t s.log) (sent t s.log); entered = s.cycles }
@@ -142,23 +142,23 @@ module _ (F : Fabric) (i : Tables) (s : State) (l : Log) (n : ℕ) (law : Lawful
         in_all : goes.its.size ≡ size (packet t l)
         in_all = goes.sends.size ∙ recorded.size
 
-        queued : Queued F.plan.nodes T (lines j) then
+        queued : Queued F.plan.nodes T (all_waiting j) then
         queued m k = go (cases_eq goes.its.sent goes.its.size) (cases_eq m n)
           where
             elsewhere : (m ≡ n → ⊥) → waiting T m then ≡ waiting T m l
             elsewhere d = cond-false _ _ _ (and_left _ _ (ne_eqb n m (λ z. d (sym z))))
 
-            go : (goes.its.sent ≡ goes.its.size) ⊎ (goes.its.sent ≡ goes.its.size → ⊥) → (m ≡ n) ⊎ (m ≡ n → ⊥) → get_or (lines j) m [] ≡ waiting T m then
+            go : (goes.its.sent ≡ goes.its.size) ⊎ (goes.its.sent ≡ goes.its.size → ⊥) → (m ≡ n) ⊎ (m ≡ n → ⊥) → get_or (all_waiting j) m [] ≡ waiting T m then
             go (inl a) (inl d) =
                 ap (λ xs. get_or xs m []) (goes.leaves a)
-                ∙ ap (λ x. get_or (set (lines i) n (drop 1 (line_at i n))) x []) d
-                ∙ get_or-set_same (lines i) n (drop 1 (line_at i n)) [] goes.room
+                ∙ ap (λ x. get_or (set (all_waiting i) n (drop 1 (waiting_at i n))) x []) d
+                ∙ get_or-set_same (all_waiting i) n (drop 1 (waiting_at i n)) [] goes.room
                 ∙ ap (drop 1) (b.queued n h)
                 ∙ sym (cond-true _ _ _ (and_from _ _ (eq-eqb n n refl) (eq-eqb (sent t s.log + 1) (size (packet t l)) (sym last_one ∙ a ∙ in_all))))
                 ∙ ap (λ x. waiting T x then) (sym d)
             go (inl a) (inr d) =
                 ap (λ xs. get_or xs m []) (goes.leaves a)
-                ∙ get_or-set_other (lines i) n m (drop 1 (line_at i n)) [] d
+                ∙ get_or-set_other (all_waiting i) n m (drop 1 (waiting_at i n)) [] d
                 ∙ b.queued m k
                 ∙ sym (elsewhere d)
             go (inr a) (inl d) =
@@ -189,7 +189,7 @@ module _ (F : Fabric) (i : Tables) (s : State) (l : Log) (n : ℕ) (law : Lawful
     let_none q e = go (waiting T n s.log) refl
       where
         go : (xs : List ℕ) → waiting T n s.log ≡ xs → Let F P s n l j q q places
-        go [] w = let z = lets.none (line_is ∙ w) in stay j q lets.keeps z.1 z.2 (enters_by [] w)
+        go [] w = let z = lets.none (waiting_is ∙ w) in stay j q lets.keeps z.1 z.2 (enters_by [] w)
         go (t ∷ ts) w = entered_in _ t l (taken t ts w) (entry t ts w) (λ r there. some_none o (flit t ts w r there) e (flit_is t ts w r there))
 
     pub let_some : (f : Flit) → o ≡ Some f → (q u : Queue Event) (after : List (Option Flit)) (y : ℕ) → after ≡ set places (place_of p) (Some f) → y ≡ i.cycles →
@@ -197,5 +197,5 @@ module _ (F : Fabric) (i : Tables) (s : State) (l : Log) (n : ℕ) (law : Lawful
     let_some f e q u after y pa yc uq = go (waiting T n s.log) refl
       where
         go : (xs : List ℕ) → waiting T n s.log ≡ xs → Let F P s n l j q u after
-        go [] w = some_none o f (lets.none (line_is ∙ w)).0 e
+        go [] w = some_none o f (lets.none (waiting_is ∙ w)).0 e
         go (t ∷ ts) w = entered_in _ t l (taken t ts w) (entry t ts w) (λ r there. some t ts w r there f e q u after y pa yc uq)

@@ -3,6 +3,7 @@ pub mod Recording
 pub mod Showing
 pub mod Looking
 pub mod Setting
+pub mod Fabrics
 pub mod Offers
 pub mod Collects
 pub mod Stepping

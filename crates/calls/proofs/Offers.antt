@@ -18,10 +18,10 @@ use Rattle.network.specs.Runs.{ticket, missing, offer_verdict, with_log}
 use Rattle.network.specs.Runs.Call.{offer}
 use Rattle.network.specs.Runs.Outcome.{offering}
 use Rattle.network.specs.Computed.{decided}
-use Rattle.network.proofs.Invariant.{all_map, Waits as Waiting, Inv}
+use Rattle.network.proofs.Invariant.{all_weaker, Waits as Waiting, Inv}
 use Rattle.calls.specs.declared.tables.Tables.{Tables}
 use Rattle.calls.specs.declared.ticket.Ticket.{Ticket}
-use Rattle.calls.specs.Records.{lines, line_at, Accepts}
+use Rattle.calls.specs.Records.{all_waiting, waiting_at, Accepts}
 use Rattle.calls.specs.Follow.{Shows, Recorded, Entry, Records}
 use Rattle.calls.proofs.Promising.{Works, nothing_done}
 use Rattle.calls.proofs.Showing.{like, change, entry_of, invariant, logged}
@@ -44,8 +44,8 @@ pub room : (P : Settings) (l : Log) (n t : ℕ) (xs : List ℕ) → 0 < P.ticket
 room P l n t xs p e f ws d =
     let T = P.tickets in
     few T (n * T) (t ∷ xs)
-    (own_range T n t p e, all_map _ _ (λ x w. own_range T n x p w.node) xs ws)
-    (all_map _ _ (λ x w q. both_ways (free x l) w.open_ticket (ap (λ y. free y l) (sym q) ∙ f)) xs ws, d)
+    (own_range T n t p e, all_weaker _ _ (λ x w. own_range T n x p w.node) xs ws)
+    (all_weaker _ _ (λ x w q. both_ways (free x l) w.open_ticket (ap (λ y. free y l) (sym q) ∙ f)) xs ws, d)
 
 module _ (F : Fabric) (i : Tables) (n o d : ℕ) (ws : List ℕ) where
   abbrev P : Settings
@@ -55,14 +55,14 @@ module _ (F : Fabric) (i : Tables) (n o d : ℕ) (ws : List ℕ) where
   refuses k h =
       nothing_done (λ s sh.
       let e = h s sh in
-      (ap offering (sym e), ap (λ (v : Verdict (Unit {0})). decided v (with_log F P s (offered (ticket F P n o) (record { destination = d; words = ws }))) s) e))
+      (ap offering (sym e), ap (λ (v : Verdict (Unit {0})). decided v (with_log s (offered (ticket P n o) (record { destination = d; words = ws }))) s) e))
 
   pub no_node : (F.plan.nodes ≤ n) ⊎ (P.tickets ≤ o) → Works F i i (offer n o d ws) (offering (refused 4 []))
   no_node (inl h) = refuses 4 (λ s sh. cond-true _ _ _ (or_left _ _ (le-leb F.plan.nodes n h)))
   no_node (inr h) = refuses 4 (λ s sh. cond-true _ _ _ (or_right _ _ (le-leb P.tickets o h)))
 
   module _ (hn : n < F.plan.nodes) (ho : o < P.tickets) where
-    first : {A : Type 0} (x y : A) → cond (missing F P n || leb P.tickets o) x y ≡ y
+    first : {A : Type 0} (x y : A) → cond (missing F n || leb P.tickets o) x y ≡ y
     first x y = cond-false _ _ _ (or_from _ _ (lt-leb F.plan.nodes n hn) (lt-leb P.tickets o ho))
 
     pub no_destination : (F.plan.nodes ≤ d) ⊎ (d ≡ n) → Works F i i (offer n o d ws) (offering (refused 5 []))
@@ -70,7 +70,7 @@ module _ (F : Fabric) (i : Tables) (n o d : ℕ) (ws : List ℕ) where
     no_destination (inr h) = refuses 5 (λ s sh. first _ _ ∙ cond-true _ _ _ (or_right _ _ (eq-eqb d n h)))
 
     module _ (hd : d < F.plan.nodes) (ne : d ≡ n → ⊥) where
-      second : {A : Type 0} (x y : A) → cond (missing F P d || eqb d n) x y ≡ y
+      second : {A : Type 0} (x y : A) → cond (missing F d || eqb d n) x y ≡ y
       second x y = cond-false _ _ _ (or_from _ _ (lt-leb F.plan.nodes d hd) (ne_eqb d n ne))
 
       pub no_words : (length ws ≡ 0) ⊎ (P.words < length ws) → Works F i i (offer n o d ws) (offering (refused 6 []))
@@ -79,7 +79,7 @@ module _ (F : Fabric) (i : Tables) (n o d : ℕ) (ws : List ℕ) where
 
       module _ (some : length ws ≡ 0 → ⊥) (few_words : length ws ≤ P.words) where
         abbrev t : ℕ
-        t = ticket F P n o
+        t = ticket P n o
 
         third : {A : Type 0} (x y : A) → cond (eqb (length ws) 0 || ltb P.words (length ws)) x y ≡ y
         third x y = cond-false _ _ _ (or_from _ _ (ne_eqb (length ws) 0 some) (le-ltb P.words (length ws) few_words))
@@ -132,13 +132,13 @@ module _ (F : Fabric) (i : Tables) (n o d : ℕ) (ws : List ℕ) where
               (change (all_tickets F.plan P) t i.tickets (Some a.its) s.log (offered t p ∷ s.log) (omega arith) sh.records
               (entry_of a.its t (offered t p ∷ s.log) (cond-true _ _ _ (eq-eqb t t refl)) (new_record s.log)) (λ u d. other_record u _ s.log d))
 
-          queued : (s : State) → Inv F P s 0 → Shows F i s → (m : ℕ) → m < F.plan.nodes → get_or (lines j) m [] ≡ waiting P.tickets m (offered t p ∷ s.log)
+          queued : (s : State) → Inv F P s 0 → Shows F i s → (m : ℕ) → m < F.plan.nodes → get_or (all_waiting j) m [] ≡ waiting P.tickets m (offered t p ∷ s.log)
           queued s inv sh m h = ap (λ xs. get_or xs m []) a.waits ∙ go (cases_eq m n)
             where
               here : List ℕ
-              here = joined 8 (line_at i n) t
+              here = joined 8 (waiting_at i n) t
 
-              go : (m ≡ n) ⊎ (m ≡ n → ⊥) → get_or (set (lines i) n here) m [] ≡ waiting P.tickets m (offered t p ∷ s.log)
+              go : (m ≡ n) ⊎ (m ≡ n → ⊥) → get_or (set (all_waiting i) n here) m [] ≡ waiting P.tickets m (offered t p ∷ s.log)
               go (inl q) =
                   let xs = waiting P.tickets n s.log in
                   let fewer = room P s.log n t xs i.fits.some at_node (is_free s sh) (inv.queue n) (inv.queue_apart n) in
@@ -146,14 +146,14 @@ module _ (F : Fabric) (i : Tables) (n o d : ℕ) (ws : List ℕ) where
                   let w = length-map i.waits items in
                   let y = law.few_nodes in
                   let joins : joined 8 xs t ≡ xs ++ (t ∷ []) = cond-true _ _ _ (lt-ltb (length xs) 8 (omega arith)) in
-                  ap (λ k. get_or (set (lines i) n here) k []) q
-                  ∙ get_or-set_same (lines i) n here [] (omega arith)
+                  ap (λ k. get_or (set (all_waiting i) n here) k []) q
+                  ∙ get_or-set_same (all_waiting i) n here [] (omega arith)
                   ∙ ap (λ ys. joined 8 ys t) (sh.queued n hn)
                   ∙ joins
                   ∙ sym (cond-true _ _ _ (eq-eqb (t / P.tickets) n at_node))
                   ∙ ap (λ k. waiting P.tickets k (offered t p ∷ s.log)) (sym q)
               go (inr q) =
-                  get_or-set_other (lines i) n m here [] q
+                  get_or-set_other (all_waiting i) n m here [] q
                   ∙ sh.queued m h
                   ∙ sym (cond-false _ _ _ (ne_eqb (t / P.tickets) m (λ x. q (sym x ∙ at_node))))
 
@@ -162,7 +162,7 @@ module _ (F : Fabric) (i : Tables) (n o d : ℕ) (ws : List ℕ) where
               record {
                 does = λ s led sh.
                     let e = verdict s sh in
-                    let then = with_log F P s (offered t p) in
+                    let then = with_log s (offered t p) in
                     let shows : Shows F j then = logged F i j s (offered t p) a.keeps sh (records s sh) (queued s (invariant F P law s led) sh) in
                     record {
                       exact = ap offering (sym e);

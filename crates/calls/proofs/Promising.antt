@@ -1,6 +1,5 @@
 -- What a call does from any state, it promises of every run.
-use Rattle.std.proofs.Common.{◌≡◌, true, false, List, [], ◌∷◌, sym, refl, ◌∙◌, subst, ap₂, subst₂}
-use Rattle.std.proofs.lemmas.Bool.{both_ways}
+use Rattle.std.proofs.Common.{◌≡◌, List, [], ◌∷◌, sym, refl, ◌∙◌, subst, ap₂}
 use Rattle.fabric.specs.Layouts.{Lawful}
 use Rattle.fabric.specs.Verdicts.Verdict.{granted}
 use Rattle.switch.specs.Switches.{LawfulSwitch}
@@ -11,7 +10,7 @@ use Rattle.network.specs.Runs.{Call, Outcome, Serves, Leads, fresh}
 use Rattle.network.specs.Runs.Leads.{set_up as led_none, one_more as led_more}
 use Rattle.network.specs.Promises.{Kept, Answered}
 use Rattle.network.specs.Computed.{next, outcome}
-use Rattle.network.proofs.Solving.{served_one, answered}
+use Rattle.network.proofs.Solving.{served, answered}
 use Rattle.network.proofs.Kept.{kept}
 use Rattle.calls.specs.declared.tables.Tables.{Tables}
 use Rattle.calls.specs.Follow.{Shows, Follows, Continues, Refused, Promised, Served, Answers, KeptThroughout, Whole}
@@ -35,18 +34,7 @@ pub nothing_done : {F : Fabric} {i : Tables} {k : Call} {o : Outcome} →
 nothing_done {F} {i} h =
     record { does = λ s led sh. let e = h s sh in record { exact = e.0; same = refl; shows = subst (Shows F i) (sym e.1) sh } }
 
--- what is granted is not refused
-pub not_refused : {A : Type 0} → false ≡ true → A
-not_refused e = absurd (both_ways false refl e)
-
 module _ {F : Fabric} (law : Lawful F.plan) (sw : LawfulSwitch F.turn) where
-  -- what is computed is the outcome
-  computed : (P : Settings) (s : State) (k : Call) → Serves F P s k (outcome F P s k) (next F P s k)
-  computed P s k =
-      let a : Answered F P s k = answered F P law s k in
-      let e = served_one F P law s a.served in
-      subst₂ (λ (o : Outcome) (r : State). Serves F P s k o r) e.0 e.1 a.served
-
   pub promised : {i j : Tables} {k : Call} {o : Outcome} → Works F i j k o → (Refused o → j ≡ i) → Promised F i j k o
   promised {i} {j} {k} {o} w u = record { continues = go; unchanged = u }
     where
@@ -54,7 +42,7 @@ module _ {F : Fabric} (law : Lawful F.plan) (sw : LawfulSwitch F.turn) where
       go run s f =
           let P : Settings = i.settings in
           let d : Does F i j s k o = w.does s (run, f.leads) f.shows in
-          let v : Serves F P s k o (next F P s k) = subst (λ (x : Outcome). Serves F P s k x (next F P s k)) (sym d.exact) (computed P s k) in
+          let v : Serves F P s k o (next F P s k) = subst (λ (x : Outcome). Serves F P s k x (next F P s k)) (sym d.exact) (served F P law s k) in
           let led : Leads F P (k ∷ run) (next F P s k) = led_more f.leads v in
           record {
             state = next F P s k;
@@ -95,8 +83,8 @@ module _ {F : Fabric} (law : Lawful F.plan) (sw : LawfulSwitch F.turn) where
     so_far : Follows F i [] fresh → {ks : List Call} {os : List Outcome} {j : Tables} → Served F i ks os j → SoFar j ks os
     so_far f begun =
         record { same = refl; state = _; answers = no_call; kept = (kept F P law sw ok []).kept _ led_none; follows = f }
-    so_far f (served_more {ks} {j = j} {k = k} {o = o} served promise) =
-        let h = so_far f served in
+    so_far f (served_more {ks} {j = j} {k = k} {o = o} before promise) =
+        let h = so_far f before in
         let c : Continues F j _ ks h.state k o = promise.continues ks h.state h.follows in
         let e = h.same in
         record {
@@ -108,6 +96,6 @@ module _ {F : Fabric} (law : Lawful F.plan) (sw : LawfulSwitch F.turn) where
         }
 
     pub whole : Follows F i [] fresh → Whole F i
-    whole f ks os j served =
-        let h = so_far f served in
+    whole f ks os j calls =
+        let h = so_far f calls in
         record { state = h.state; answers = h.answers; only = λ us s a. one_way h.answers a; kept = h.kept }

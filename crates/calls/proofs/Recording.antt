@@ -1,17 +1,13 @@
 -- Lists in the records of tickets, and the tickets that wait at a node.
-use Rattle.std.proofs.Common.{◌≡◌, ℕ, ◌+◌, ◌<◌, List, [], ◌∷◌, length, get_or, map, drop, set, Some, None, Option, sym, refl, ap, ◌∙◌, subst, subst₂, add-one}
-use Rattle.std.proofs.lemmas.List.{map-set, get_or-map, length-append}
+use Rattle.std.proofs.Common.{◌≡◌, ℕ, ◌<◌, List, [], ◌∷◌, length, get_or, map, drop, set, Some, None, Option, sym, ap, ◌∙◌, subst, subst₂}
+use Rattle.std.proofs.lemmas.List.{map-set, get_or-map}
 use Rattle.std.specs.Prelude.{slice_get}
 use Rattle.fabric.specs.declared.parts.Flit.{Flit}
 use Rattle.batch.specs.declared.batch.Batch.{Batch}
 use Rattle.batch.specs.Items.{items}
 use Rattle.calls.specs.declared.ticket.Ticket.{Ticket}
 use Rattle.calls.specs.declared.tables.Tables.{Tables}
-use Rattle.calls.specs.Records.{values, lines, line_at, Keeps, Receives, Sends, TakesIn, LetsGo}
-
-pub length_values : (xs : List (Option ℕ)) (n : ℕ) → length (values xs n) ≡ n
-length_values xs ℕ.zero = refl
-length_values xs (ℕ.suc n) = length-append (values xs n) _ ∙ ap (λ k. k + 1) (length_values xs n) ∙ add-one n
+use Rattle.calls.specs.Records.{all_waiting, waiting_at, Keeps, Receives, Sends, TakesIn, LetsGo}
 
 pub head_some : (xs : List ℕ) (u : ℕ) → Some u ≡ slice_get xs 0 → (t : ℕ) (ts : List ℕ) → xs ≡ t ∷ ts → t ≡ u
 head_some [] u e t ts q = cc
@@ -35,10 +31,10 @@ took_in i j f p q k w there re ti =
           (q, subst (λ (x : Ticket). Receives x q f.number f.word) pr re, ti);
     }
 
--- the ticket that goes is the first of its line
+-- the ticket that goes is the first that waits
 pub let_go : (i j : Tables) (n u v t : ℕ) (o : Option Flit) (p r its : Ticket) → v ≡ u → t ≡ u → get_or i.tickets v None ≡ Some p → get_or i.tickets t None ≡ Some r →
-    n < length (lines i) → Sends p its u i.cycles o →
-    j.tickets ≡ set i.tickets v (Some its) → ((its.sent ≡ its.size → ⊥) → j.waits ≡ i.waits) → (its.sent ≡ its.size → lines j ≡ set (lines i) n (drop 1 (line_at i n))) →
+    n < length (all_waiting i) → Sends p its u i.cycles o →
+    j.tickets ≡ set i.tickets v (Some its) → ((its.sent ≡ its.size → ⊥) → j.waits ≡ i.waits) → (its.sent ≡ its.size → all_waiting j ≡ set (all_waiting i) n (drop 1 (waiting_at i n))) →
     LetsGo i j n t r o
 let_go i j n u v t o p r its vu tu wi is ro se ti st le =
     let vt : v ≡ t = vu ∙ sym tu in
@@ -53,7 +49,7 @@ let_go i j n u v t o p r its vu tu wi is ro se ti st le =
       leaves = le;
     }
 
--- one node's line is changed
-pub one_line : (ws : List (Batch ℕ 8)) (n : ℕ) (b d : Batch ℕ 8) (f : List ℕ → List ℕ) → n < length ws → items b ≡ f (items (get_or ws n d)) →
+-- the tickets of one node change
+pub one_changed : (ws : List (Batch ℕ 8)) (n : ℕ) (b d : Batch ℕ 8) (f : List ℕ → List ℕ) → n < length ws → items b ≡ f (items (get_or ws n d)) →
     map items (set ws n b) ≡ set (map items ws) n (f (get_or (map items ws) n []))
-one_line ws n b d f h e = map-set items ws n b ∙ ap (λ x. set (map items ws) n x) (e ∙ ap f (sym (get_or-map items ws n d [] h)))
+one_changed ws n b d f h e = map-set items ws n b ∙ ap (λ x. set (map items ws) n x) (e ∙ ap f (sym (get_or-map items ws n d [] h)))

@@ -26,10 +26,18 @@ use Rattle.calls.specs.declared.tables.Tables.{Tables}
 use Rattle.calls.specs.Records.{Advances}
 use Rattle.calls.specs.Steps.{far_place}
 use Rattle.calls.specs.Follow.{slot_of, Records, Queued, Shows}
-use Rattle.calls.specs.Midway.{Reached, Midway, NodeWorks, Round}
+use Rattle.calls.specs.Midway.{Reached, Midway, NodeWorks}
 use Rattle.calls.proofs.Promising.{Works, nothing_done}
 use Rattle.calls.proofs.Putting.{put_length}
 use Rattle.calls.proofs.Working.{told_few}
+
+-- the loop over the nodes, from the tables i
+pub record Round (F : Fabric) (i j : Tables) (n g : ℕ) (arrived : List (Option Flit)) (q r : Queue Event) (off : ℕ) : Type 0 where
+  pub same : j.settings ≡ i.settings
+  pub cycles : j.cycles ≡ i.cycles
+  pub few : off ≤ n
+  pub midway : (s : State) → Reached F i.settings s → g ≡ golden_in F i.settings s.cycles → q.held + 2 * F.plan.nodes ≤ length q.memory → Shows F i s →
+      Midway F i.settings s n j arrived q r off
 
 module _ (F : Fabric) (i : Tables) where
   abbrev P : Settings

@@ -14,7 +14,7 @@ use Rattle.network.proofs.Running.{invariant as after_run}
 use Rattle.network.proofs.Solving.{led_one}
 use Rattle.calls.specs.declared.ticket.Ticket.{Ticket}
 use Rattle.calls.specs.declared.tables.Tables.{Tables}
-use Rattle.calls.specs.Records.{lines, Keeps}
+use Rattle.calls.specs.Records.{all_waiting, Keeps}
 use Rattle.calls.specs.Follow.{slot_of, Recorded, Entry, Records, Queued, Shows}
 use Rattle.calls.specs.Midway.{Reached}
 
@@ -81,12 +81,12 @@ invariant F P law s r = subst (λ (x : State). Inv F P x 0) (sym (led_one F P la
 
 -- one more thing happened, of which tickets and queues tell
 pub logged : (F : Fabric) (i j : Tables) (s : State) (h : Happening) → Keeps i j → Shows F i s → Records (all_tickets F.plan i.settings) j.tickets (h ∷ s.log) →
-    Queued F.plan.nodes i.settings.tickets (lines j) (h ∷ s.log) → Shows F j (with_log F i.settings s h)
+    Queued F.plan.nodes i.settings.tickets (all_waiting j) (h ∷ s.log) → Shows F j (with_log s h)
 logged F i j s h k sh rs qs =
     record {
       cycles = k.cycles ∙ sh.cycles;
       drawn = k.register ∙ sh.drawn ∙ ap (λ (Q : Settings). register Q.seed (s.cycles * F.plan.nodes)) (sym k.settings);
       slots = λ n p b. ap (λ xs. slot_of xs n p) k.slots ∙ sh.slots n p b;
       records = subst (λ (Q : Settings). Records (all_tickets F.plan Q) j.tickets (h ∷ s.log)) (sym k.settings) rs;
-      queued = subst (λ (Q : Settings). Queued F.plan.nodes Q.tickets (lines j) (h ∷ s.log)) (sym k.settings) qs;
+      queued = subst (λ (Q : Settings). Queued F.plan.nodes Q.tickets (all_waiting j) (h ∷ s.log)) (sym k.settings) qs;
     }

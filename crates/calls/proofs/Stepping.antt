@@ -1,5 +1,5 @@
 -- The steps of a node's work on four places.
-use Rattle.std.proofs.Common.{◌≡◌, ℕ, ◌+◌, ◌*◌, ◌<◌, ◌⊎◌, List, [], ◌∷◌, ◌++◌, length, get_or, set, replicate, is_some, false, true, ◌&&◌, Some, None, Option, sym, refl, ap, ◌∙◌, subst, inl, inr, add-one, arith}
+use Rattle.std.proofs.Common.{◌≡◌, ℕ, ◌+◌, ◌*◌, ◌<◌, ◌⊎◌, ◌≢◌, List, [], ◌∷◌, ◌++◌, length, get_or, set, replicate, is_some, false, true, ◌&&◌, Some, None, Option, sym, refl, ap, ◌∙◌, subst, inl, inr, add-one, arith}
 use mathlib.Core.Path.{fun_ext}
 use Rattle.std.specs.Option.{is_none}
 use Rattle.std.proofs.lemmas.List.{length-replicate, get_or_append_left, get_or-replicate, get_or-set_same, get_or-set_other}
@@ -14,7 +14,17 @@ use Rattle.fabric.specs.Places.{place_of_port, place_below, port_of_place, slot_
 use Rattle.fabric.proofs.Following.{far_exists}
 use Rattle.switch.specs.Switches.{at}
 use Rattle.network.specs.Computed.{due, better, best}
-use Rattle.calls.specs.Steps.{none_at, far_place, best_upto, Spread, SpreadUpto, Unsent}
+use Rattle.calls.specs.Steps.{none_at, far_place, Spread, Unsent}
+
+-- the best of the first k places
+abbrev pub best_upto : ℕ → (Port → Option Flit) → ℕ → Option (Port × Flit)
+best_upto g here ℕ.zero = None
+best_upto g here (ℕ.suc k) = better g (best_upto g here k) (port_of k) (here (port_of k))
+
+-- the first k ports have sent
+pub record SpreadUpto (p : Plan) (n k : ℕ) (leaving before after : List (Option Flit)) : Type 0 where
+  pub sent : (q : Port) → place_of q < k → get_or after (far_place p n q) None ≡ at leaving q
+  pub rest : (j : ℕ) → ((q : Port) → place_of q < k → j ≢ far_place p n q) → get_or after j None ≡ get_or before j None
 
 pub best_all : (g k : ℕ) (here : Port → Option Flit) (r : Option (Port × Flit)) → k ≡ 4 → r ≡ best_upto g here k → r ≡ best g here
 best_all g k here r e h = h ∙ ap (best_upto g here) e

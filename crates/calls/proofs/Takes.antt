@@ -24,7 +24,7 @@ use Rattle.network.proofs.Nodes.{taken_here}
 use Rattle.network.proofs.Places.{at_ordered}
 use Rattle.calls.specs.declared.ticket.Ticket.{Ticket}
 use Rattle.calls.specs.declared.tables.Tables.{Tables}
-use Rattle.calls.specs.Records.{lines, Keeps, Receives, TakesIn}
+use Rattle.calls.specs.Records.{all_waiting, Keeps, Receives, TakesIn}
 use Rattle.calls.specs.Follow.{slot_of, Recorded, Entry, Records, Queued}
 use Rattle.calls.specs.Midway.{Reached, Between, Took, TakesOff}
 use Rattle.calls.proofs.Showing.{like, change, entry_more, entry_none, get_or_some, invariant}
@@ -37,13 +37,13 @@ set_ordered here W o = refl
 
 -- the tables after nothing but tickets and queues changed
 pub between : (F : Fabric) (s : State) (l m : Log) (i j : Tables) → Keeps i j → Between F s l i → Records (all_tickets F.plan i.settings) j.tickets m →
-    Queued F.plan.nodes i.settings.tickets (lines j) m → Between F s m j
+    Queued F.plan.nodes i.settings.tickets (all_waiting j) m → Between F s m j
 between F s l m i j k b r q =
     record {
       cycles = k.cycles ∙ b.cycles;
       slots = λ n p h. ap (λ xs. slot_of xs n p) k.slots ∙ b.slots n p h;
       records = subst (λ (P : Settings). Records (all_tickets F.plan P) j.tickets m) (sym k.settings) r;
-      queued = subst (λ (P : Settings). Queued F.plan.nodes P.tickets (lines j) m) (sym k.settings) q;
+      queued = subst (λ (P : Settings). Queued F.plan.nodes P.tickets (all_waiting j) m) (sym k.settings) q;
     }
 
 module _ (f : Flit) (n c : ℕ) (l : Log) where

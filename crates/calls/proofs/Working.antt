@@ -56,9 +56,9 @@ module _ (F : Fabric) (P : Settings) (s : State) where
   off_few n None = omega arith
   off_few n (Some b) = omega arith
 
-  put_none : (n : ℕ) (o : Option (Port × Flit)) → count_off (entered_at n o) ≡ 0
-  put_none n None = refl
-  put_none n (Some b) = refl
+  count_entered : (n : ℕ) (o : Option (Port × Flit)) → count_off (entered_at n o) ≡ 0
+  count_entered n None = refl
+  count_entered n (Some b) = refl
 
   -- what the first nodes did, and then one more
   done_more : (n : ℕ) → done F P s (n + 1) ≡ entered_at n (entering F P s n) ++ (off_at s.cycles n (taken F P s n) ++ done F P s n)
@@ -80,7 +80,7 @@ module _ (F : Fabric) (P : Settings) (s : State) where
       let a = ap count_off (done_more n) in
       let b = count_append (entered_at n (entering F P s n)) (off_at s.cycles n (taken F P s n) ++ done F P s n) in
       let c = count_append (off_at s.cycles n (taken F P s n)) (done F P s n) in
-      let d = put_none n (entering F P s n) in
+      let d = count_entered n (entering F P s n) in
       omega arith
 
   -- no ticket is taken or freed within a cycle
@@ -101,7 +101,7 @@ module _ (F : Fabric) (P : Settings) (s : State) where
   own_log inv n =
       record {
         taken = λ t. off_free t n (taken F P s n) (grown F P s n) ∙ keeps_free n t;
-        line = off_waiting F P s n n (taken F P s n) (grown F P s n) ∙ keeps_waiting F P s n n (omega arith);
+        waits = off_waiting F P s n n (taken F P s n) (grown F P s n) ∙ keeps_waiting F P s n n (omega arith);
         packets = λ t. off_packet F P s t n (taken F P s n) (grown F P s n) ∙ keeps_packet F P s n t;
         flits = λ t e. off_sent F P s t n (taken F P s n) (grown F P s n) ∙ keeps_sent F P s inv n t (omega arith);
       }

@@ -1,5 +1,5 @@
 -- How the tables of the code stand for a state, and what every call promises.
-use Rattle.std.specs.Prelude.{◌≡◌, ℕ, ◌+◌, ◌*◌, ◌<◌, ◌≤◌, Bool, true, false, not, List, [], ◌∷◌, ◌++◌, Some, None, Option, is_some, slice_index, slice_index_or}
+use Rattle.std.specs.Prelude.{◌≡◌, ℕ, ◌+◌, ◌*◌, ◌<◌, ◌≤◌, not, List, [], ◌∷◌, ◌++◌, Some, None, Option, is_some, slice_index, slice_index_or}
 use Rattle.fabric.specs.declared.parts.Port.{Port}
 use Rattle.fabric.specs.declared.parts.Flit.{Flit}
 use Rattle.fabric.specs.Ports.{place_of}
@@ -15,7 +15,7 @@ use Rattle.network.specs.Runs.Outcome.{offering, cycling, collecting, looking}
 use Rattle.network.specs.Promises.{InTime, Kept}
 use Rattle.calls.specs.declared.ticket.Ticket.{Ticket}
 use Rattle.calls.specs.declared.tables.Tables.{Tables}
-use Rattle.calls.specs.Records.{lines}
+use Rattle.calls.specs.Records.{all_waiting}
 
 abbrev pub slot_of : List (Option Flit) → ℕ → Port → Option Flit
 slot_of xs n p = slice_index_or xs (4 * n + place_of p) None
@@ -47,7 +47,7 @@ pub record Shows (F : Fabric) (i : Tables) (s : State) : Type 0 where
   pub drawn : i.register ≡ register i.settings.seed (s.cycles * F.plan.nodes)
   pub slots : (n : ℕ) (p : Port) → n < F.plan.nodes → slot_of i.slots n p ≡ s.slot n p
   pub records : Records (all_tickets F.plan i.settings) i.tickets s.log
-  pub queued : Queued F.plan.nodes i.settings.tickets (lines i) s.log
+  pub queued : Queued F.plan.nodes i.settings.tickets (all_waiting i) s.log
 
 -- the tables of a network to which a run has led, in the state s
 pub record Follows (F : Fabric) (i : Tables) (run : List Call) (s : State) : Type 0 where
@@ -63,16 +63,17 @@ pub record Continues (F : Fabric) (i j : Tables) (run : List Call) (s : State) (
   pub follows : Follows F j (k ∷ run) state
   pub kept : Kept F j.settings (k ∷ run) state
 
-abbrev pub declined : {A : Type 0} → Verdict A → Bool
-declined (granted a) = false
-declined (refused k vs) = true
+-- a verdict refuses
+abbrev pub Refuses : {A : Type 0} → Verdict A → Type 0
+Refuses (granted a) = ⊥
+Refuses (refused k vs) = Unit {0}
 
 -- a call is refused
 abbrev pub Refused : Outcome → Type 0
-Refused (offering v) = declined v ≡ true
-Refused (cycling v q) = declined v ≡ true
-Refused (collecting v memory) = declined v ≡ true
-Refused (looking v) = declined v ≡ true
+Refused (offering v) = Refuses v
+Refused (cycling v q) = Refuses v
+Refused (collecting v memory) = Refuses v
+Refused (looking v) = Refuses v
 
 -- what a call promises that takes the tables i to j, for every run that led to i
 pub record Promised (F : Fabric) (i j : Tables) (k : Call) (o : Outcome) : Type 0 where

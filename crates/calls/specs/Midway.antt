@@ -14,9 +14,9 @@ use Rattle.network.specs.Cycle.{Fabric, State, golden_in, off_at, entered_at, in
 use Rattle.network.specs.Runs.{Call, Leads, put_all, told, count_off}
 use Rattle.network.specs.Computed.{taken, left, entering, ready, leaving, done}
 use Rattle.calls.specs.declared.tables.Tables.{Tables}
-use Rattle.calls.specs.Records.{lines, Keeps}
+use Rattle.calls.specs.Records.{all_waiting, Keeps}
 use Rattle.calls.specs.Steps.{far_place, Spread}
-use Rattle.calls.specs.Follow.{slot_of, Records, Queued, Shows}
+use Rattle.calls.specs.Follow.{slot_of, Records, Queued}
 
 -- a run leads to this state
 abbrev pub Reached : Fabric → Settings → State → Type 0
@@ -27,7 +27,7 @@ pub record Between (F : Fabric) (s : State) (l : Log) (i : Tables) : Type 0 wher
   pub cycles : i.cycles ≡ s.cycles
   pub slots : (n : ℕ) (p : Port) → n < F.plan.nodes → slot_of i.slots n p ≡ s.slot n p
   pub records : Records (all_tickets F.plan i.settings) i.tickets l
-  pub queued : Queued F.plan.nodes i.settings.tickets (lines i) l
+  pub queued : Queued F.plan.nodes i.settings.tickets (all_waiting i) l
 
 -- a node takes off: the tables then show the log with that, and its event is put into the line
 pub record Took (F : Fabric) (P : Settings) (s : State) (n : ℕ) (l : Log) (j : Tables) (q r : Queue Event) (places : List (Option Flit)) (off : ℕ) : Type 0 where
@@ -45,7 +45,7 @@ pub record TakesOff (i j : Tables) (n g : ℕ) (q r : Queue Event) (places : Lis
 -- a log that says of the node's own tickets what the state's log says
 pub record Own (P : Settings) (s : State) (n : ℕ) (l : Log) : Type 0 where
   pub taken : (t : ℕ) → free t l ≡ free t s.log
-  pub line : waiting P.tickets n l ≡ waiting P.tickets n s.log
+  pub waits : waiting P.tickets n l ≡ waiting P.tickets n s.log
   pub packets : (t : ℕ) → packet t l ≡ packet t s.log
   pub flits : (t : ℕ) → t / P.tickets ≡ n → sent t l ≡ sent t s.log
 
@@ -82,11 +82,3 @@ pub record NodeWorks (F : Fabric) (i j : Tables) (n g : ℕ) (before after : Lis
   pub few : off < 2
   pub works : (s : State) (q : Queue Event) (count : ℕ) → Reached F i.settings s → g ≡ golden_in F i.settings s.cycles → u.held + 2 ≤ length u.memory →
       Midway F i.settings s n i before q u count → Midway F i.settings s (n + 1) j after q v (count + off)
-
--- the loop over the nodes, from the tables i
-pub record Round (F : Fabric) (i j : Tables) (n g : ℕ) (arrived : List (Option Flit)) (q r : Queue Event) (off : ℕ) : Type 0 where
-  pub same : j.settings ≡ i.settings
-  pub cycles : j.cycles ≡ i.cycles
-  pub few : off ≤ n
-  pub midway : (s : State) → Reached F i.settings s → g ≡ golden_in F i.settings s.cycles → q.held + 2 * F.plan.nodes ≤ length q.memory → Shows F i s →
-      Midway F i.settings s n j arrived q r off

@@ -9,11 +9,11 @@ use Rattle.calls.specs.declared.ticket.Ticket.{Ticket}
 use Rattle.calls.specs.declared.tables.Tables.{Tables}
 
 -- the tickets that wait at each node, the first in front
-abbrev pub lines : Tables → List (List ℕ)
-lines i = map items i.waits
+abbrev pub all_waiting : Tables → List (List ℕ)
+all_waiting i = map items i.waits
 
-abbrev pub line_at : Tables → ℕ → List ℕ
-line_at i n = slice_index_or (lines i) n []
+abbrev pub waiting_at : Tables → ℕ → List ℕ
+waiting_at i n = slice_index_or (all_waiting i) n []
 
 -- the first m places all hold a word
 abbrev pub all_in : List (Option ℕ) → ℕ → Bool
@@ -35,7 +35,7 @@ pub record Starts (i : Tables) (P : Settings) : Type 0 where
   pub register : i.register ≡ P.seed
   pub slots : i.slots ≡ replicate 256 None
   pub tickets : i.tickets ≡ replicate 512 None
-  pub waits : lines i ≡ replicate 64 []
+  pub waits : all_waiting i ≡ replicate 64 []
 
 -- a packet just accepted
 pub record Packed (r : Ticket) (destination : ℕ) (ws : List ℕ) : Type 0 where
@@ -58,7 +58,7 @@ pub record Accepts (i j : Tables) (n t d : ℕ) (ws : List ℕ) : Type 0 where
   pub its : Ticket
   pub packed : Packed its d ws
   pub tickets : j.tickets ≡ slice_set i.tickets t (Some its)
-  pub waits : lines j ≡ slice_set (lines i) n (joined 8 (line_at i n) t)
+  pub waits : all_waiting j ≡ slice_set (all_waiting i) n (joined 8 (waiting_at i n) t)
 
 -- a ticket whose packet is collected is free
 pub record Frees (i j : Tables) (t : ℕ) : Type 0 where
@@ -95,15 +95,15 @@ pub record TakesIn (i j : Tables) (f : Flit) : Type 0 where
 pub record LetsGo (i j : Tables) (n t : ℕ) (r : Ticket) (o : Option Flit) : Type 0 where
   pub its : Ticket
   pub sends : Sends r its t i.cycles o
-  pub room : n < length (lines i)
+  pub room : n < length (all_waiting i)
   pub tickets : j.tickets ≡ slice_set i.tickets t (Some its)
   pub stays : (its.sent ≢ its.size) → j.waits ≡ i.waits
-  pub leaves : its.sent ≡ its.size → lines j ≡ slice_set (lines i) n (drop 1 (line_at i n))
+  pub leaves : its.sent ≡ its.size → all_waiting j ≡ slice_set (all_waiting i) n (drop 1 (waiting_at i n))
 
 pub record LetsIn (i j : Tables) (n : ℕ) (o : Option Flit) : Type 0 where
   pub keeps : Keeps i j
-  pub none : line_at i n ≡ [] → (o ≡ None) × (j.tickets ≡ i.tickets) × (j.waits ≡ i.waits)
-  pub some : (t : ℕ) (ts : List ℕ) (r : Ticket) → line_at i n ≡ t ∷ ts → slice_index_or i.tickets t None ≡ Some r →
+  pub none : waiting_at i n ≡ [] → (o ≡ None) × (j.tickets ≡ i.tickets) × (j.waits ≡ i.waits)
+  pub some : (t : ℕ) (ts : List ℕ) (r : Ticket) → waiting_at i n ≡ t ∷ ts → slice_index_or i.tickets t None ≡ Some r →
       LetsGo i j n t r o
 
 -- the draw register is shifted

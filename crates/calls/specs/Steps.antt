@@ -5,9 +5,8 @@ use Rattle.std.specs.Option.{is_none}
 use Rattle.fabric.specs.declared.parts.Port.TheVariants.{N, E, S, W}
 use Rattle.fabric.specs.declared.parts.Flit.{Flit}
 use Rattle.fabric.specs.Layouts.{Plan}
-use Rattle.fabric.specs.Ports.{place_of, port_of}
+use Rattle.fabric.specs.Ports.{place_of}
 use Rattle.switch.specs.Switches.{at}
-use Rattle.network.specs.Computed.{better}
 
 -- no flit stands at any of the four
 abbrev pub none_at : (Port → Option Flit) → Bool
@@ -24,13 +23,3 @@ pub record Spread (p : Plan) (n : ℕ) (leaving before after : List (Option Flit
 -- nothing is sent yet to the far ends of the nodes from n on
 abbrev pub Unsent : Plan → ℕ → List (Option Flit) → Type 0
 Unsent p n slots = (m : ℕ) (q : Port) → n ≤ m → m < p.nodes → slice_index_or slots (far_place p m q) None ≡ None
-
--- the best of the first k places
-abbrev pub best_upto : ℕ → (Port → Option Flit) → ℕ → Option (Port × Flit)
-best_upto g here ℕ.zero = None
-best_upto g here (ℕ.suc k) = better g (best_upto g here k) (port_of k) (here (port_of k))
-
--- the first k ports have sent
-pub record SpreadUpto (p : Plan) (n k : ℕ) (leaving before after : List (Option Flit)) : Type 0 where
-  pub sent : (q : Port) → place_of q < k → slice_index_or after (far_place p n q) None ≡ at leaving q
-  pub rest : (j : ℕ) → ((q : Port) → place_of q < k → j ≢ far_place p n q) → slice_index_or after j None ≡ slice_index_or before j None

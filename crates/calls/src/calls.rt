@@ -1,13 +1,12 @@
 // A network of a layout and a switch, and the calls that it answers.
-ghost use Rattle.std.specs.Prelude.{◌≡◌, ◌+◌, ◌<◌, true};
+ghost use Rattle.std.specs.Prelude.{◌≡◌, ◌+◌, ◌<◌, OnOk, OnErr};
 ghost use Rattle.fabric.specs.Refusals.{shown};
-ghost use Rattle.fabric.specs.Verdicts.Verdict.{granted};
 ghost use Rattle.line.specs.Lines.{queue_of, SameLender};
 ghost use Rattle.bounds.specs.SetUp.{set_up_verdict};
 ghost use Rattle.bounds.specs.Lateness.{latest};
 ghost use Rattle.network.specs.Runs.Call.{offer as offers, cycle as cycles, collect as collects, look as looks};
 ghost use Rattle.network.specs.Runs.Outcome.{offering, cycling, collecting, looking};
-ghost use Rattle.calls.specs.Follow.{declined, Promised, Begins, StaysInTime};
+ghost use Rattle.calls.specs.Follow.{Promised, Begins, StaysInTime};
 ghost use Rattle.calls.specs.Steps.{Unsent};
 ghost use Rattle.calls.specs.Midway.{Sent, NodeWorks};
 ghost use Rattle.calls.specs.Networks.{fabric_of, SameParts};
@@ -59,8 +58,8 @@ impl<L: Layout, S: Switch> Network<L, S> {
     // No cycle is carried out then, all slots are empty and all tickets free.
     pub fn set_up(&mut self, settings: Settings) -> Result<(), Refusal>
         ensures exact { shown result ≡ set_up_verdict (L.plan self.old.layout) settings }
-        ensures begins { shown result ≡ granted tt → Begins (fabric_of L.plan S.turn self.old) settings self.new.inner }
-        ensures unchanged { declined (shown result) ≡ true → self.new.inner ≡ self.old.inner }
+        ensures begins { OnOk result (Begins (fabric_of L.plan S.turn self.old) settings self.new.inner) }
+        ensures unchanged { OnErr result (self.new.inner ≡ self.old.inner) }
         ensures parts { SameParts self.old self.new }
     {
         settings.judge(&self.layout)?;

@@ -4,7 +4,7 @@ use Rattle.std.proofs.lemmas.Bool.{cases_lt, cases_eq}
 use Rattle.std.proofs.lemmas.Option.{same_Some}
 use Rattle.fabric.specs.declared.parts.Port.{Port}
 use Rattle.fabric.specs.declared.parts.Slot.{Slot}
-use Rattle.fabric.specs.Layouts.{Plan, Lawful, Exists, Missing, Leads}
+use Rattle.fabric.specs.Layouts.{Plan, Lawful, Exists, Missing, LeadsNearer}
 
 module _ (p : Plan) (l : Lawful p) where
   -- both nodes exist, or one is missing
@@ -25,12 +25,12 @@ module _ (p : Plan) (l : Lawful p) where
       go h (inr z) = let o = l.nearer m n h.0 h.1 z in cc
 
   -- a wish leads one nearer
-  pub wish_leads : (m n : ℕ) (w : Port) → p.wish m n ≡ Some w → Leads p m n w
+  pub wish_leads : (m n : ℕ) (w : Port) → p.wish m n ≡ Some w → LeadsNearer p m n w
   wish_leads m n w e = ⊎_elim (λ h. go h (cases_eq (p.distance m n) 0)) (λ h. cc (l.missing_wish m n h)) (present m n)
     where
-      go : Exists p m × Exists p n → (p.distance m n ≡ 0) ⊎ (p.distance m n ≡ 0 → ⊥) → Leads p m n w
+      go : Exists p m × Exists p n → (p.distance m n ≡ 0) ⊎ (p.distance m n ≡ 0 → ⊥) → LeadsNearer p m n w
       go h (inl z) = cc (l.absent m n h.0 h.1 z)
-      go h (inr z) = let o = l.nearer m n h.0 h.1 z in subst (Leads p m n) (same_Some o.0 w (sym o.1 ∙ e)) o.2
+      go h (inr z) = let o = l.nearer m n h.0 h.1 z in subst (LeadsNearer p m n) (same_Some o.0 w (sym o.1 ∙ e)) o.2
 
   -- a far end of a node that exists is at a node that exists: else it would lead back to itself
   pub far_exists : (n : ℕ) (s : Port) → Exists p n → Exists p (p.far n s).node

@@ -8,7 +8,7 @@ use Rattle.std.specs.Int.{abs_diff}
 use Rattle.fabric.specs.declared.parts.Port.{Port}
 use Rattle.fabric.specs.declared.parts.Port.TheVariants.{N, E, S, W}
 use Rattle.fabric.specs.declared.parts.Slot.{Slot}
-use Rattle.fabric.specs.Layouts.{Lawful, Leads, both}
+use Rattle.fabric.specs.Layouts.{Lawful, LeadsNearer, both}
 use Rattle.fabric.specs.Meshes.{Fair, spot, across, towards, mesh_plan, mesh_verdict}
 use Rattle.fabric.specs.Verdicts.Verdict.{granted, refused}
 
@@ -161,11 +161,11 @@ module _ (w h : ℕ) (ok : Fair w h) where
       sym (div-add-mod' m w) ∙ ap₂ (λ a b. a * w + b) r c ∙ div-add-mod' n w
 
   nearer : (m n : ℕ) → m < w * h → n < w * h → ((mesh_plan w h).distance m n ≢ 0) →
-      (o : Port) × ((mesh_plan w h).wish m n ≡ Some o) × Leads (mesh_plan w h) m n o
+      (o : Port) × ((mesh_plan w h).wish m n ≡ Some o) × LeadsNearer (mesh_plan w h) m n o
   nearer m n p q z = go (some_or_none ((mesh_plan w h).wish m n))
     where
       go : ((mesh_plan w h).wish m n ≡ None) ⊎ ((o : Port) × ((mesh_plan w h).wish m n ≡ Some o)) →
-          (o : Port) × ((mesh_plan w h).wish m n ≡ Some o) × Leads (mesh_plan w h) m n o
+          (o : Port) × ((mesh_plan w h).wish m n ≡ Some o) × LeadsNearer (mesh_plan w h) m n o
       go (inl e) = absurd (z (distance_in m n p q ∙ towards_none _ _ _ _ (sym (wish_in m n p q) ∙ e)))
       go (inr (o, e)) =
           let s = step (m % w) (m / w) n o (column_in m) (row_in m p) q (sym (wish_in m n p q) ∙ e) in

@@ -19,8 +19,8 @@ abbrev pub Missing : Plan → ℕ → Type 0
 Missing p n = p.nodes ≤ n
 
 -- a port of node m leads to a node that is one nearer to n
-abbrev pub Leads : Plan → ℕ → ℕ → Port → Type 0
-Leads p m n w = Exists p (p.far m w).node × (p.distance (p.far m w).node n + 1 ≡ p.distance m n)
+abbrev pub LeadsNearer : Plan → ℕ → ℕ → Port → Type 0
+LeadsNearer p m n w = Exists p (p.far m w).node × (p.distance (p.far m w).node n + 1 ≡ p.distance m n)
 
 -- of k nodes both exist
 abbrev pub both : ℕ → ℕ → ℕ → Bool
@@ -38,7 +38,7 @@ pub record Lawful (p : Plan) : Type 0 where
   pub near : p.reach ≤ 63
   -- the wish is absent exactly at distance 0, and otherwise a port that leads one nearer
   pub absent : (m n : ℕ) → Exists p m → Exists p n → p.distance m n ≡ 0 → p.wish m n ≡ None
-  pub nearer : (m n : ℕ) → Exists p m → Exists p n → (p.distance m n ≢ 0) → (w : Port) × (p.wish m n ≡ Some w) × Leads p m n w
+  pub nearer : (m n : ℕ) → Exists p m → Exists p n → (p.distance m n ≢ 0) → (w : Port) × (p.wish m n ≡ Some w) × LeadsNearer p m n w
   -- of a missing node: distance 0, no wish, and as far end the place asked
   pub missing_distance : (m n : ℕ) → Missing p m ⊎ Missing p n → p.distance m n ≡ 0
   pub missing_wish : (m n : ℕ) → Missing p m ⊎ Missing p n → p.wish m n ≡ None

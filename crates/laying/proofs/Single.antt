@@ -5,7 +5,7 @@ use Rattle.std.proofs.lemmas.Bool.Decides.{nat_tests}
 use Rattle.fabric.specs.declared.parts.Cable.{Cable}
 use Rattle.fabric.specs.declared.parts.Port.{Port}
 use Rattle.fabric.specs.declared.parts.Slot.{Slot}
-use Rattle.fabric.specs.Layouts.{Plan, Lawful, Leads, Missing}
+use Rattle.fabric.specs.Layouts.{Plan, Lawful, LeadsNearer, Missing}
 use Rattle.fabric.specs.Meshes.{Fair, mesh_plan, mesh_verdict}
 use Rattle.fabric.specs.Grid.{mesh_lawful}
 use Rattle.fabric.specs.Verdicts.{Verdict, granting}
@@ -57,7 +57,7 @@ module _ {k : ℕ} {cs : List Cable} {p q : Plan} (a : Means k cs p) (b : Means 
       let y = b.met in
       omega (arith, x.4, y.4, b.within x.0 x.1 x.2 x.3, a.within y.0 y.1 y.2 y.3, same_distance x.0 x.1, same_distance y.0 y.1)
 
-  same_leads : (m n : ℕ) (w : Port) → Leads p m n w → Leads q m n w
+  same_leads : (m n : ℕ) (w : Port) → LeadsNearer p m n w → LeadsNearer q m n w
   same_leads m n w h =
       let e = same_far m w in (
         omega (arith, h.0, ap (λ (s : Slot). s.node) e, a.nodes, b.nodes),

@@ -8,20 +8,11 @@ use Rattle.fabric.specs.Layouts.{Lawful}
 use Rattle.switch.specs.Switches.{LawfulSwitch, Carried}
 use Rattle.bounds.specs.declared.settings.Settings.{Settings}
 use Rattle.network.specs.Cycle.{Fabric, State, golden_in}
-use Rattle.network.specs.Computed.{taken, left, entering, ready, handing, arriving}
-use Rattle.network.specs.Promises.{Same}
+use Rattle.network.specs.Computed.{taken, left, entering, ready, handing, arriving, cycled}
+use Rattle.network.specs.Promises.{Same, AlikeFrom, InNoSlot}
 use Rattle.network.proofs.Nodes.{taken_here, slot_split, left_slot, left_gone, ready_split, left_ready, leads_to, arrives, came, taken_lowest, taken_low}
 use Rattle.network.proofs.Invariant.{Inv}
-use Rattle.network.proofs.Moving.{Slots}
 use Rattle.network.proofs.Golden.{golden_ready, ready_golden, wish_is}
-
--- each flit of a ticket in the one stands in the same slot of the other, with its number and destination
-abbrev pub Like : ℕ → Slots → Slots → Type 0
-Like t a b = (n : ℕ) (p : Port) (f : Flit) → a n p ≡ Some f → f.ticket ≡ t →
-    (g : Flit) × (b n p ≡ Some g) × (g.ticket ≡ t) × (g.number ≡ f.number) × (g.destination ≡ f.destination)
-
-abbrev pub Nowhere : Flit → Slots → Type 0
-Nowhere f a = (n : ℕ) (p : Port) (g : Flit) → a n p ≡ Some g → Same g f → ⊥
 
 -- a state in which a ticket is golden, and no flit of it enters in this cycle
 pub record Side (F : Fabric) (t : ℕ) (P : Settings) (s : State) : Type 0 where
@@ -38,7 +29,7 @@ module _ (F : Fabric) (law : Lawful F.plan) (sw : LawfulSwitch F.turn) (t : ℕ)
       go (inl u) = absurd (a.quiet n p f u k)
       go (inr u) = u
 
-  module _ (P : Settings) (s : State) (a : Side F t P s) (Q : Settings) (r : State) (b : Side F t Q r) (there : Like t s.slot r.slot) (back : Like t r.slot s.slot) where
+  module _ (P : Settings) (s : State) (a : Side F t P s) (Q : Settings) (r : State) (b : Side F t Q r) (there : AlikeFrom t s r) (back : AlikeFrom t r s) where
     -- what is taken off here is taken off there
     taken_too : (n : ℕ) (p : Port) (f g : Flit) → f.ticket ≡ t → taken F P s n ≡ Some (p, f) → r.slot n p ≡ Some g → g.ticket ≡ t → g.number ≡ f.number → g.destination ≡ f.destination →
         taken F Q r n ≡ Some (p, g)
@@ -52,7 +43,7 @@ module _ (F : Fabric) (law : Lawful F.plan) (sw : LawfulSwitch F.turn) (t : ℕ)
         (λ q h x y z. (b.inv.alone n n q p h g x u y z).1)
 
 module _ (F : Fabric) (law : Lawful F.plan) (sw : LawfulSwitch F.turn) (t : ℕ)
-    (P : Settings) (s : State) (a : Side F t P s) (Q : Settings) (r : State) (b : Side F t Q r) (there : Like t s.slot r.slot) (back : Like t r.slot s.slot) where
+    (P : Settings) (s : State) (a : Side F t P s) (Q : Settings) (r : State) (b : Side F t Q r) (there : AlikeFrom t s r) (back : AlikeFrom t r s) where
   -- what stays here stays there
   left_too : (n : ℕ) (p : Port) (f g : Flit) → f.ticket ≡ t → left F P s n p ≡ Some f → r.slot n p ≡ Some g → g.ticket ≡ t → g.number ≡ f.number → g.destination ≡ f.destination →
       left F Q r n p ≡ Some g
@@ -77,7 +68,7 @@ module _ (F : Fabric) (law : Lawful F.plan) (sw : LawfulSwitch F.turn) (t : ℕ)
       )
 
 module _ (F : Fabric) (law : Lawful F.plan) (sw : LawfulSwitch F.turn) (t : ℕ)
-    (P : Settings) (s : State) (a : Side F t P s) (Q : Settings) (r : State) (b : Side F t Q r) (there : Like t s.slot r.slot) (back : Like t r.slot s.slot) where
+    (P : Settings) (s : State) (a : Side F t P s) (Q : Settings) (r : State) (b : Side F t Q r) (there : AlikeFrom t s r) (back : AlikeFrom t r s) where
   -- golden flits leave alike
   same_way : (n : ℕ) (p : Port) (f : Flit) → left F P s n p ≡ Some f → f.ticket ≡ t → leads_to F Q r n p ≡ leads_to F P s n p
   same_way n p f e k =
@@ -96,36 +87,36 @@ module _ (F : Fabric) (law : Lawful F.plan) (sw : LawfulSwitch F.turn) (t : ℕ)
         sym (ap (λ (z : Slot). arriving F Q r z.node z.port) (same_way n p f e k ∙ l)) ∙ y,
       )
 
-  pub like_step : Like t (arriving F P s) (arriving F Q r)
+  pub like_step : AlikeFrom t (cycled F P s) (cycled F Q r)
   like_step m q f e k =
       let z = came F P s law m q f e in
       let y = ready_left F law sw t P s a z.node z.port f z.there k in
       let c = there z.node z.port f (left_slot F P s z.node z.port f y) k in
       (c.0, (arrive_both z.node z.port f c.0 k y c.1 c.2 c.3 c.4 m q z.led).1, c.2, c.3, c.4)
 
-  -- a flit that is nowhere, or taken off, is nowhere after the cycle
-  nowhere_after : (f : Flit) → f.ticket ≡ t → ((n : ℕ) (p : Port) (g : Flit) → left F P s n p ≡ Some g → Same g f → ⊥) → Nowhere f (arriving F P s)
+  -- a flit that is in no slot, or taken off, is in none after the cycle
+  nowhere_after : (f : Flit) → f.ticket ≡ t → ((n : ℕ) (p : Port) (g : Flit) → left F P s n p ≡ Some g → Same g f → ⊥) → InNoSlot f (cycled F P s)
   nowhere_after f k h m q g e u =
       let z = came F P s law m q g e in
       h z.node z.port g (ready_left F law sw t P s a z.node z.port g z.there (u.ticket ∙ k)) u
 
-  pub nowhere_step : (f : Flit) → f.ticket ≡ t → Nowhere f s.slot → Nowhere f (arriving F P s)
+  pub nowhere_step : (f : Flit) → f.ticket ≡ t → InNoSlot f s → InNoSlot f (cycled F P s)
   nowhere_step f k h = nowhere_after f k (λ n p g e u. h n p g (left_slot F P s n p g e) u)
 
-  pub taken_nowhere : (n : ℕ) (p : Port) (f : Flit) → f.ticket ≡ t → taken F P s n ≡ Some (p, f) → Nowhere f (arriving F P s)
+  pub taken_nowhere : (n : ℕ) (p : Port) (f : Flit) → f.ticket ≡ t → taken F P s n ≡ Some (p, f) → InNoSlot f (cycled F P s)
   taken_nowhere n p f k e =
       nowhere_after f k
       (λ m q g u v.
       let w = a.inv.alone m n q p g f (left_slot F P s m q g u) (taken_here F P s n p f e).0 v.ticket v.number in
       left_gone F P s n p g f e (sym (λ j. left F P s (w.0 j) (w.1 j)) ∙ u))
 
--- two flits in one slot, or both nowhere
-abbrev pub Tied : Flit → Flit → Slots → Slots → Type 0
-Tied f g x y = ((n : ℕ) × (p : Port) × (x n p ≡ Some f) × (y n p ≡ Some g)) ⊎ (Nowhere f x × Nowhere g y)
+-- two flits in one slot, or both in none
+abbrev pub Tied : State → State → Flit → Flit → Type 0
+Tied s r f g = ((n : ℕ) × (p : Port) × (s.slot n p ≡ Some f) × (r.slot n p ≡ Some g)) ⊎ (InNoSlot f s × InNoSlot g r)
 
 module _ (F : Fabric) (law : Lawful F.plan) (sw : LawfulSwitch F.turn) (t : ℕ)
-    (P : Settings) (s : State) (a : Side F t P s) (Q : Settings) (r : State) (b : Side F t Q r) (there : Like t s.slot r.slot) (back : Like t r.slot s.slot) where
-  pub tied_step : (f g : Flit) → f.ticket ≡ t → g.ticket ≡ t → Tied f g s.slot r.slot → Tied f g (arriving F P s) (arriving F Q r)
+    (P : Settings) (s : State) (a : Side F t P s) (Q : Settings) (r : State) (b : Side F t Q r) (there : AlikeFrom t s r) (back : AlikeFrom t r s) where
+  pub tied_step : (f g : Flit) → f.ticket ≡ t → g.ticket ≡ t → Tied s r f g → Tied (cycled F P s) (cycled F Q r) f g
   tied_step f g k l (inr h) =
       inr (nowhere_step F law sw t P s a Q r b there back f k h.0, nowhere_step F law sw t Q r b P s a back there g l h.1)
   tied_step f g k l (inl h) = go (slot_split F P s h.0 h.1 f h.2)
@@ -142,7 +133,7 @@ module _ (F : Fabric) (law : Lawful F.plan) (sw : LawfulSwitch F.turn) (t : ℕ)
       destination : g.destination ≡ f.destination
       destination = sym (ap (λ (x : Flit). x.destination) same) ∙ c.4
 
-      go : (taken F P s h.0 ≡ Some (h.1, f)) ⊎ (left F P s h.0 h.1 ≡ Some f) → Tied f g (arriving F P s) (arriving F Q r)
+      go : (taken F P s h.0 ≡ Some (h.1, f)) ⊎ (left F P s h.0 h.1 ≡ Some f) → Tied (cycled F P s) (cycled F Q r) f g
       go (inl e) =
           inr (
             taken_nowhere F law sw t P s a Q r b there back h.0 h.1 f k e,

@@ -192,16 +192,16 @@ module _ (F : Fabric) (P : Settings) where
   module _ (short : P.words ≤ 4) where
     next_covered : (s : State) → Inv F P s 0 → AllCovered s.log → (k : Call) → AllCovered (next F P s k).log
     next_covered s i w (offer n o d ws) =
-        by_verdict F P (λ x. AllCovered x.log) (offer_verdict F P s n o d ws) (with_log F P s (offered (ticket F P n o) (record { destination = d; words = ws }))) s w
-        (λ a e. let z = offerable F P s n o d ws a e in offer_covered w (ticket F P n o) (record { destination = d; words = ws }) z.ticket_exists (omega (arith, z.short)))
+        by_verdict F P (λ x. AllCovered x.log) (offer_verdict F P s n o d ws) (with_log s (offered (ticket P n o) (record { destination = d; words = ws }))) s w
+        (λ a e. let z = offerable F P s n o d ws a e in offer_covered w (ticket P n o) (record { destination = d; words = ws }) z.ticket_exists (omega (arith, z.short)))
     next_covered s i w (cycle q) =
         by_verdict F P (λ x. AllCovered x.log) (cycle_verdict F P s q) (cycled F P s) s w (λ a e. nodes_covered s i w F.plan.nodes (omega arith))
     next_covered s i w (collect r n o memory) =
         by_verdict F P (λ x. AllCovered x.log) (collect_verdict F P s r n o memory)
-        (with_log F P s (collected (ticket F P n o) r (collection F P s (ticket F P n o)))) s w
+        (with_log s (collected (ticket P n o) r (collection s (ticket P n o)))) s w
         (λ a e.
-        let is_open = (complete_parts (ticket F P n o) s.log (collectable F P s r n o memory a e).whole).0 in
-        collection_covered w (ticket F P n o) r (collection F P s (ticket F P n o)) (i.opens (ticket F P n o) is_open).ticket is_open)
+        let is_open = (complete_parts (ticket P n o) s.log (collectable F P s r n o memory a e).whole).0 in
+        collection_covered w (ticket P n o) r (collection s (ticket P n o)) (i.opens (ticket P n o) is_open).ticket is_open)
     next_covered s i w (look n p) = w
 
     run_covered : Lawful F.plan → (run : List Call) → AllCovered (after F P run).log

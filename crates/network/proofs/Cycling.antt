@@ -24,25 +24,25 @@ pub ticket_node : (F : Fabric) (P : Settings) (t : ℕ) → t < all_tickets F.pl
 ticket_node F P t h = (row_below_turned t P.tickets F.plan.nodes P.tickets h (omega arith)).1
 
 module _ (F : Fabric) (P : Settings) (s : State) where
-  pub put_packet : (t n : ℕ) (o : Option (Port × Flit)) (l : Log) → packet t (entered_at n o ++ l) ≡ packet t l
-  put_packet t n None l = refl
-  put_packet t n (Some b) l = refl
+  pub entered_packet : (t n : ℕ) (o : Option (Port × Flit)) (l : Log) → packet t (entered_at n o ++ l) ≡ packet t l
+  entered_packet t n None l = refl
+  entered_packet t n (Some b) l = refl
 
   pub off_packet : (t n : ℕ) (o : Option (Port × Flit)) (l : Log) → packet t (off_at s.cycles n o ++ l) ≡ packet t l
   off_packet t n None l = refl
   off_packet t n (Some b) l = refl
 
-  pub put_waiting : (n m : ℕ) (o : Option (Port × Flit)) (l : Log) → (n ≡ m → ⊥) → waiting P.tickets m (entered_at n o ++ l) ≡ waiting P.tickets m l
-  put_waiting n m None l h = refl
-  put_waiting n m (Some b) l h = rw (ne_eqb n m h)
+  pub entered_waiting : (n m : ℕ) (o : Option (Port × Flit)) (l : Log) → (n ≡ m → ⊥) → waiting P.tickets m (entered_at n o ++ l) ≡ waiting P.tickets m l
+  entered_waiting n m None l h = refl
+  entered_waiting n m (Some b) l h = rw (ne_eqb n m h)
 
   pub off_waiting : (n m : ℕ) (o : Option (Port × Flit)) (l : Log) → waiting P.tickets m (off_at s.cycles n o ++ l) ≡ waiting P.tickets m l
   off_waiting n m None l = refl
   off_waiting n m (Some b) l = refl
 
-  pub put_sent : (t n : ℕ) (o : Option (Port × Flit)) (l : Log) → ((p : Port) (f : Flit) → o ≡ Some (p, f) → t ≡ f.ticket → ⊥) → sent t (entered_at n o ++ l) ≡ sent t l
-  put_sent t n None l h = refl
-  put_sent t n (Some b) l h = rw (ne_eqb t b.1.ticket (h b.0 b.1 refl))
+  pub entered_sent : (t n : ℕ) (o : Option (Port × Flit)) (l : Log) → ((p : Port) (f : Flit) → o ≡ Some (p, f) → t ≡ f.ticket → ⊥) → sent t (entered_at n o ++ l) ≡ sent t l
+  entered_sent t n None l h = refl
+  entered_sent t n (Some b) l h = rw (ne_eqb t b.1.ticket (h b.0 b.1 refl))
 
   pub off_sent : (t n : ℕ) (o : Option (Port × Flit)) (l : Log) → sent t (off_at s.cycles n o ++ l) ≡ sent t l
   off_sent t n None l = refl
@@ -65,12 +65,12 @@ module _ (F : Fabric) (P : Settings) (s : State) where
   pub keeps_packet : (k t : ℕ) → packet t (grown k) ≡ packet t s.log
   keeps_packet zero t = rw grown_none
   keeps_packet (suc k) t =
-      ap (λ (l : Log). packet t l) (grown_more k) ∙ put_packet t k (entering F P s k) (half_log k) ∙ off_packet t k (taken F P s k) (grown k) ∙ keeps_packet k t
+      ap (λ (l : Log). packet t l) (grown_more k) ∙ entered_packet t k (entering F P s k) (half_log k) ∙ off_packet t k (taken F P s k) (grown k) ∙ keeps_packet k t
 
   pub keeps_waiting : (k m : ℕ) → k ≤ m → waiting P.tickets m (grown k) ≡ waiting P.tickets m s.log
   keeps_waiting zero m h = rw grown_none
   keeps_waiting (suc k) m h =
-      ap (λ (l : Log). waiting P.tickets m l) (grown_more k) ∙ put_waiting k m (entering F P s k) (half_log k) (λ e. omega arith)
+      ap (λ (l : Log). waiting P.tickets m l) (grown_more k) ∙ entered_waiting k m (entering F P s k) (half_log k) (λ e. omega arith)
       ∙ off_waiting k m (taken F P s k) (grown k) ∙ keeps_waiting k m (omega arith)
 
   module _ (i : Inv F P s 0) where
@@ -85,7 +85,7 @@ module _ (F : Fabric) (P : Settings) (s : State) where
     keeps_sent zero t h = rw grown_none
     keeps_sent (suc k) t h =
         ap (λ (l : Log). sent t l) (grown_more k)
-        ∙ put_sent t k (entering F P s k) (half_log k)
+        ∙ entered_sent t k (entering F P s k) (half_log k)
         (λ p f e d. let w = (waited k p f e).node in let y : t / P.tickets ≡ f.ticket / P.tickets = ap (λ (x : ℕ). x / P.tickets) d in omega arith)
         ∙ off_sent t k (taken F P s k) (grown k) ∙ keeps_sent k t (omega arith)
 

@@ -172,7 +172,7 @@ module _ (F : Fabric) (P : Settings) where
             let n : Near (cycled F P s) = near_step s i ih.0 in
             subst (λ (x : State). Near x × Gone x) (sym z) (n, gone_step s i j n ih.1)
 
-    -- a) in time
+    -- in time
     pub delivered : 0 < P.epoch → (run : List Call) (f : Flit) (n : ℕ) → Stands (entered f n) (after F P run).log →
         f.entered + 1 + (all_tickets F.plan P + 1) * P.epoch ≤ (after F P run).cycles → OffOnce f (after F P run).log
     delivered some run f n e h = go (i.accounted f n e)

@@ -12,7 +12,7 @@ use Rattle.bounds.specs.declared.settings.Settings.{Settings}
 use Rattle.network.specs.Cycle.{Fabric, State, Next}
 use Rattle.network.specs.Promises.{Same, Stands, OffOnce, NeverOff, InOneSlot, InNoSlot, OfPacket, OfferedLast}
 use Rattle.network.proofs.Stand.{stands_now, stands_later, stands_cases, stands_older, Other, never_more, once_more}
-use Rattle.network.proofs.Invariant.{Sits, Waits, Inv, all_map, all_both}
+use Rattle.network.proofs.Invariant.{Sits, Waits, Inv, all_weaker, all_both}
 use Rattle.network.proofs.Moving.{Slots}
 
 -- the slots gain this flit
@@ -153,7 +153,7 @@ module _ (F : Fabric) (P : Settings) (s : State) (n : ℕ) (i : Inv F P s n) (ne
   -- what waits still, but for the ticket of the flit that enters
   others : (m : ℕ) (xs : List ℕ) → AllByRecursion (Waits P s.log m) xs → AllByRecursion (λ u. f.ticket ≡ u → ⊥) xs → AllByRecursion (Waits P log m) xs
   others m xs w d =
-      all_map (λ u. Waits P s.log m u × (f.ticket ≡ u → ⊥)) (Waits P log m)
+      all_weaker (λ u. Waits P s.log m u × (f.ticket ≡ u → ⊥)) (Waits P log m)
       (λ u e. record { node = e.0.node; open_ticket = e.0.open_ticket; more = rw (ne_eqb u f.ticket (λ h. e.1 (sym h))) e.0.more })
       xs (all_both (Waits P s.log m) (λ u. f.ticket ≡ u → ⊥) xs w d)
 
@@ -185,7 +185,7 @@ module _ (F : Fabric) (P : Settings) (s : State) (n : ℕ) (i : Inv F P s n) (ne
       go (inl e) = queue_here m e
       go (inr h) =
           let d : AllByRecursion (λ u. f.ticket ≡ u → ⊥) (waiting P.tickets m s.log) =
-          all_map (Waits P s.log m) (λ u. f.ticket ≡ u → ⊥) (λ u w e. h (sym queued.0.node ∙ ap (λ (x : ℕ). x / P.tickets) e ∙ w.node)) (waiting P.tickets m s.log) (i.queue m) in
+          all_weaker (Waits P s.log m) (λ u. f.ticket ≡ u → ⊥) (λ u w e. h (sym queued.0.node ∙ ap (λ (x : ℕ). x / P.tickets) e ∙ w.node)) (waiting P.tickets m s.log) (i.queue m) in
           rw (ne_eqb n m h) (others m (waiting P.tickets m s.log) (i.queue m) d, i.queue_apart m)
 
   timely : (g : Flit) (m : ℕ) → Stands (entered g m) log → (g.entered ≤ s.cycles) × (g.entered ≡ s.cycles → g.ticket / P.tickets < n + 1)

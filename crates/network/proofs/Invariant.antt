@@ -12,9 +12,9 @@ use Rattle.bounds.specs.SetUp.{all_tickets}
 use Rattle.network.specs.Cycle.{Fabric, State}
 use Rattle.network.specs.Promises.{Same, Stands, OffOnce, NeverOff, InOneSlot, InNoSlot, OfPacket, OfferedLast}
 
-pub all_map : (R Q : ℕ → Type 0) → ((x : ℕ) → R x → Q x) → (xs : List ℕ) → AllByRecursion R xs → AllByRecursion Q xs
-all_map R Q h [] e = tt
-all_map R Q h (x ∷ xs) e = (h x e.0, all_map R Q h xs e.1)
+pub all_weaker : (R Q : ℕ → Type 0) → ((x : ℕ) → R x → Q x) → (xs : List ℕ) → AllByRecursion R xs → AllByRecursion Q xs
+all_weaker R Q h [] e = tt
+all_weaker R Q h (x ∷ xs) e = (h x e.0, all_weaker R Q h xs e.1)
 
 pub all_both : (R Q : ℕ → Type 0) (xs : List ℕ) → AllByRecursion R xs → AllByRecursion Q xs → AllByRecursion (λ x. R x × Q x) xs
 all_both R Q [] d e = tt

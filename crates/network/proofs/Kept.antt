@@ -1,5 +1,5 @@
 -- Every run of every network that set-up accepts keeps the promises.
-use Rattle.std.proofs.Common.{◌≡◌, ℕ, ◌+◌, ◌*◌, ◌<◌, ◌≤◌, ◌||◌, ltb, ◌⊎◌, List, ◌++◌, Some, sym, refl, ap, ◌∙◌, subst, inl, inr, mul-le-mul_right, arith, eqb}
+use Rattle.std.proofs.Common.{◌≡◌, ℕ, ◌+◌, ◌*◌, ◌<◌, ◌≤◌, ◌||◌, ltb, ◌⊎◌, List, ◌++◌, Some, sym, refl, ap, ◌∙◌, subst, subst₂, inl, inr, mul-le-mul_right, arith, eqb}
 use Rattle.std.proofs.lemmas.Bool.{or_parts, ltb-false}
 use Rattle.std.proofs.lemmas.Option.{same_Some}
 use Rattle.fabric.specs.declared.parts.Flit.{Flit}
@@ -57,9 +57,6 @@ accepted p P e =
       narrow = let z : P.seed ≤ 65535 = ltb-false 65535 P.seed seed.1 in omega arith;
     }
 
-both : (R : State → State → Type 0) {a b c d : State} → a ≡ b → c ≡ d → R a c → R b d
-both R {a} {b} {c} {d} e f x = subst (R b) f (subst (λ (y : State). R y c) e x)
-
 module _ (F : Fabric) (law : Lawful F.plan) where
   -- a flit that was in a slot once, and is in none now, was taken off
   off_since : (P : Settings) (earlier more : List Call) (n : ℕ) (p : Port) (f : Flit) → (after F P earlier).slot n p ≡ Some f →
@@ -89,7 +86,7 @@ module _ (F : Fabric) (law : Lawful F.plan) where
       (n : ℕ) (p : Port) (f g : Flit) → (after F P earlier).slot n p ≡ Some f → f.ticket ≡ t → (after F Q earlier').slot n p ≡ Some g →
       Together (after F P (more ++ earlier)) (after F Q (more' ++ earlier')) f g
   undisturbed sw P Q epochs earlier more earlier' more' t begins begins' alike k small c c' h h' n p f g u golden v =
-      go (follow F P Q law sw epochs earlier earlier' t begins begins' f g golden golden' (alike.0, alike.1, inl (n, p, u, v)) more more' k small c c' h h').2
+      go (follow F P Q law sw epochs earlier earlier' t begins begins' f g golden golden' (alike, inl (n, p, u, v)) more more' k small c c' h h').1
     where
       golden' : g.ticket ≡ t
       golden' =
@@ -97,7 +94,7 @@ module _ (F : Fabric) (law : Lawful F.plan) where
           let w : z.0 ≡ g = same_Some z.0 g (sym z.1 ∙ v) in
           sym (ap (λ (x : Flit). x.ticket) w) ∙ z.2
 
-      go : Tied f g (after F P (more ++ earlier)).slot (after F Q (more' ++ earlier')).slot → Together (after F P (more ++ earlier)) (after F Q (more' ++ earlier')) f g
+      go : Tied (after F P (more ++ earlier)) (after F Q (more' ++ earlier')) f g → Together (after F P (more ++ earlier)) (after F Q (more' ++ earlier')) f g
       go (inl z) = inl z
       go (inr z) = inr (off_since P earlier more n p f u z.0, off_since Q earlier' more' n p g v z.1)
 
@@ -110,11 +107,11 @@ module _ (F : Fabric) (law : Lawful F.plan) where
       let b : s ≡ after F P (e.more ++ e.earlier) = led_one F P law e.led_late ∙ ap (λ (x : List Call). after F P x) e.split in
       let a' : early' ≡ after F Q e'.earlier = led_one F Q law e'.led_early in
       let b' : r ≡ after F Q (e'.more ++ e'.earlier) = led_one F Q law e'.led_late ∙ ap (λ (x : List Call). after F Q x) e'.split in
-      both (λ x y. Together x y f g) (sym b) (sym b')
+      subst₂ (λ (x y : State). Together x y f g) (sym b) (sym b')
       (undisturbed sw P Q epochs e.earlier e.more e'.earlier e'.more t
-      (subst (Begins F P t) a e.begins) (subst (Begins F Q t) a' e'.begins) (both (Alike t) a a' alike) k e.within
-      (both (λ x y. y.cycles ≡ x.cycles + k) a b e.passed) (both (λ x y. y.cycles ≡ x.cycles + k) a' b' e'.passed)
-      (both (NoneEntered t) a b e.none_entered) (both (NoneEntered t) a' b' e'.none_entered)
+      (subst (Begins F P t) a e.begins) (subst (Begins F Q t) a' e'.begins) (subst₂ (Alike t) a a' alike) k e.within
+      (subst₂ (λ (x y : State). y.cycles ≡ x.cycles + k) a b e.passed) (subst₂ (λ (x y : State). y.cycles ≡ x.cycles + k) a' b' e'.passed)
+      (subst₂ (NoneEntered t) a b e.none_entered) (subst₂ (NoneEntered t) a' b' e'.none_entered)
       n p f g (subst (λ (x : State). x.slot n p ≡ Some f) a u) golden (subst (λ (x : State). x.slot n p ≡ Some g) a' v))
 
 module _ (F : Fabric) (P : Settings) (law : Lawful F.plan) (sw : LawfulSwitch F.turn) (set_up : set_up_verdict F.plan P ≡ granted tt) (run : List Call) where

@@ -1,5 +1,5 @@
 -- The invariant when an offer is accepted, or a packet collected.
-use Rattle.std.proofs.Common.{◌≡◌, ℕ, ◌/◌, ◌<◌, ◌≤◌, true, false, not, eqb, ◌⊎◌, List, [], ◌∷◌, ◌++◌, length, get_or, take, Some, None, Option, sym, refl, ap, ◌∙◌, subst, inl, inr, arith, take-suc, is_some, unwrap_or}
+use Rattle.std.proofs.Common.{◌≡◌, ℕ, ◌+◌, ◌/◌, ◌<◌, ◌≤◌, true, false, not, eqb, ◌⊎◌, List, [], ◌∷◌, ◌++◌, length, get_or, take, Some, None, Option, sym, refl, ap, ◌∙◌, subst, inl, inr, arith, take-suc, add-one, is_some, unwrap_or}
 use Rattle.std.specs.List.{AllByRecursion}
 use Rattle.std.proofs.SliceLists.{all_by_recursion_push}
 use Rattle.fabric.proofs.Pigeons.{Distinct}
@@ -7,6 +7,7 @@ use mathlib.Core.Path.{transport}
 use lib.Seq.{take-length}
 use Rattle.std.proofs.lemmas.Bool.{eq-eqb, ne_eqb, cases_eq, and_parts, not-true, both_ways}
 use Rattle.std.proofs.lemmas.Option.{same_Some}
+use Rattle.std.proofs.lemmas.List.{length-append}
 use Rattle.fabric.specs.declared.parts.Flit.{Flit}
 use Rattle.fabric.specs.declared.parts.Port.{Port}
 use Rattle.network.specs.Log.{Happening, Log, Packet, packet, size, word, aim, free, sent, received, filled, complete, gathered, waiting, words_of}
@@ -14,10 +15,11 @@ use Rattle.network.specs.Log.Happening.{offered, entered, off, collected}
 use Rattle.bounds.specs.declared.settings.Settings.{Settings}
 use Rattle.bounds.specs.SetUp.{all_tickets}
 use Rattle.network.specs.Cycle.{Fabric, State}
+use Rattle.network.specs.Runs.{collection}
 use Rattle.network.specs.Promises.{Stands, OffOnce, NeverOff, InOneSlot, InNoSlot, OfPacket, OfferedLast}
 use Rattle.network.proofs.Stand.{stands_later, stands_cases, stands_older, none_stands, Other, never_more, once_more}
 use Rattle.network.proofs.Places.{some_none}
-use Rattle.network.proofs.Invariant.{Sits, Opened, Waits, Inv, all_map, distinct_push}
+use Rattle.network.proofs.Invariant.{Sits, Opened, Waits, Inv, all_weaker, distinct_push}
 
 -- no flit moves
 abbrev pub Quiet : Happening → Type 0
@@ -130,12 +132,12 @@ module _ (F : Fabric) (P : Settings) (s : State) (N : ℕ) (i : Inv F P s N) (u 
     where
       old : AllByRecursion (Waits P log_o n) (waiting P.tickets n s.log)
       old =
-          all_map (Waits P s.log n) (Waits P log_o n)
+          all_weaker (Waits P s.log n) (Waits P log_o n)
           (λ v w. let h = ne_eqb v u (apart v w.open_ticket) in record { node = w.node; open_ticket = rw h w.open_ticket; more = rw h w.more })
           (waiting P.tickets n s.log) (i.queue n)
 
       differ : AllByRecursion (λ v. v ≡ u → ⊥) (waiting P.tickets n s.log)
-      differ = all_map (Waits P s.log n) (λ v. v ≡ u → ⊥) (λ v w. apart v w.open_ticket) (waiting P.tickets n s.log) (i.queue n)
+      differ = all_weaker (Waits P s.log n) (λ v. v ≡ u → ⊥) (λ v w. apart v w.open_ticket) (waiting P.tickets n s.log) (i.queue n)
 
       go : (u / P.tickets ≡ n) ⊎ (u / P.tickets ≡ n → ⊥) → AllByRecursion (Waits P log_o n) (waiting P.tickets n log_o) × Distinct (waiting P.tickets n log_o)
       go (inl e) =
@@ -230,6 +232,10 @@ words_upto f ℕ.zero ws h e = refl
 words_upto f (ℕ.suc m) ws h e =
     (λ j. words_upto f m ws (omega arith) (λ k d. e k (omega arith)) j ++ (e m (omega arith) j ∷ [])) ∙ sym (take-suc ws m 0 h)
 
+pub length_words : (f : ℕ → Option ℕ) (m : ℕ) → length (words_of f m) ≡ m
+length_words f ℕ.zero = refl
+length_words f (ℕ.suc m) = length-append (words_of f m) _ ∙ ap (λ k. k + 1) (length_words f m) ∙ add-one m
+
 -- a complete ticket is open, and its record filled
 pub complete_parts : (t : ℕ) (l : Log) → complete t l ≡ true → (free t l ≡ false) × (filled t (size (packet t l)) l ≡ true)
 complete_parts t l whole =
@@ -238,7 +244,7 @@ complete_parts t l whole =
 module _ (F : Fabric) (P : Settings) (s : State) (N : ℕ) (i : Inv F P s N) (u r : ℕ)
     (whole : complete u s.log ≡ true) (at_home : aim (packet u s.log) ≡ r) where
   abbrev ws_c : List ℕ
-  ws_c = gathered u (size (packet u s.log)) s.log
+  ws_c = collection s u
 
   abbrev log_c : Log
   log_c = collected u r ws_c ∷ s.log
@@ -264,7 +270,7 @@ module _ (F : Fabric) (P : Settings) (s : State) (N : ℕ) (i : Inv F P s N) (u 
 
   queue_c : (n : ℕ) → AllByRecursion (Waits P log_c n) (waiting P.tickets n log_c) × Distinct (waiting P.tickets n log_c)
   queue_c n = (
-    all_map (Waits P s.log n) (Waits P log_c n)
+    all_weaker (Waits P s.log n) (Waits P log_c n)
         (λ v w. let h = ne_eqb v u (arrived v (sent v s.log) w.more (i.unsent v (sent v s.log) w.open_ticket (omega arith))) in
         record { node = w.node; open_ticket = rw h w.open_ticket; more = w.more })
         (waiting P.tickets n s.log) (i.queue n),

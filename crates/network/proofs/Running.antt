@@ -3,13 +3,13 @@ use Rattle.std.proofs.Common.{◌≡◌, ℕ, ◌<◌, ◌≤◌, Bool, true, fa
 use Rattle.std.proofs.lemmas.Bool.{eqb-true, eqb-false, leb-false, ltb-false, or_parts, not-false, both_ways}
 use lib.Arith.{digits_lt}
 use Rattle.fabric.specs.Layouts.{Lawful}
-use Rattle.network.specs.Log.{Log, packet, size, aim, free, complete, gathered}
+use Rattle.network.specs.Log.{Log, packet, aim, free, complete}
 use Rattle.network.specs.Log.Happening.{offered, collected}
 use Rattle.fabric.specs.Verdicts.{Verdict}
 use Rattle.bounds.specs.declared.settings.Settings.{Settings}
 use Rattle.bounds.specs.SetUp.{all_tickets}
 use Rattle.network.specs.Cycle.{Fabric, State}
-use Rattle.network.specs.Runs.{Call, ticket, missing, offer_verdict, cycle_verdict, collect_verdict, with_log, fresh}
+use Rattle.network.specs.Runs.{Call, ticket, missing, offer_verdict, cycle_verdict, collection, collect_verdict, with_log, fresh}
 use Rattle.network.specs.Computed.{cycled, decided, next, after}
 use Rattle.fabric.specs.Verdicts.Verdict.{granted, refused}
 use Rattle.network.specs.Runs.Call.{offer, cycle, collect, look}
@@ -30,7 +30,7 @@ module _ (F : Fabric) (P : Settings) where
   by_verdict R (granted a) x y r g = g a refl
   by_verdict R (refused k vs) x y r g = r
 
-  pub inv_fresh : Inv F P (fresh) 0
+  pub inv_fresh : Inv F P fresh 0
   inv_fresh =
       record {
         sits = λ n p f e. some_none None f refl e;
@@ -51,24 +51,24 @@ module _ (F : Fabric) (P : Settings) where
 
   -- what an accepted offer was tested for
   pub record Offerable (s : State) (n o d : ℕ) (ws : List ℕ) : Type 0 where
-    pub is_free : free (ticket F P n o) s.log ≡ true
-    pub ticket_exists : ticket F P n o < all_tickets F.plan P
+    pub is_free : free (ticket P n o) s.log ≡ true
+    pub ticket_exists : ticket P n o < all_tickets F.plan P
     pub goes : d < F.plan.nodes
     pub some : 0 < length ws
     pub short : length ws ≤ P.words
 
   pub offerable : (s : State) (n o d : ℕ) (ws : List ℕ) (a : Unit {0}) → offer_verdict F P s n o d ws ≡ granted a → Offerable s n o d ws
   offerable s n o d ws a e =
-      let v4 = peel 4 (missing F P n || leb P.tickets o) _ a e in
-      let v5 = peel 5 (missing F P d || eqb d n) _ a v4.1 in
+      let v4 = peel 4 (missing F n || leb P.tickets o) _ a e in
+      let v5 = peel 5 (missing F d || eqb d n) _ a v4.1 in
       let v6 = peel 6 (eqb (length ws) 0 || ltb P.words (length ws)) _ a v5.1 in
-      let v7 = peel 7 (not (free (ticket F P n o) s.log)) _ a v6.1 in
-      let n_o = or_parts (missing F P n) (leb P.tickets o) v4.0 in
-      let d_n = or_parts (missing F P d) (eqb d n) v5.0 in
+      let v7 = peel 7 (not (free (ticket P n o) s.log)) _ a v6.1 in
+      let n_o = or_parts (missing F n) (leb P.tickets o) v4.0 in
+      let d_n = or_parts (missing F d) (eqb d n) v5.0 in
       let w_w = or_parts (eqb (length ws) 0) (ltb P.words (length ws)) v6.0 in
       let l0 = eqb-false (length ws) 0 w_w.0 in
       record {
-        is_free = not-false (free (ticket F P n o) s.log) v7.0;
+        is_free = not-false (free (ticket P n o) s.log) v7.0;
         ticket_exists = digits_lt (leb-false F.plan.nodes n n_o.0) (leb-false P.tickets o n_o.1);
         goes = leb-false F.plan.nodes d d_n.0;
         some = omega arith;
@@ -77,13 +77,13 @@ module _ (F : Fabric) (P : Settings) where
 
   -- what a collection was tested for
   pub record Collectable (s : State) (r n o : ℕ) : Type 0 where
-    pub whole : complete (ticket F P n o) s.log ≡ true
-    pub at_home : aim (packet (ticket F P n o) s.log) ≡ r
+    pub whole : complete (ticket P n o) s.log ≡ true
+    pub at_home : aim (packet (ticket P n o) s.log) ≡ r
 
   pub collectable : (s : State) (r n o : ℕ) (memory : List ℕ) (a : ℕ) → collect_verdict F P s r n o memory ≡ granted a → Collectable s r n o
   collectable s r n o memory a e =
-      let t : ℕ = ticket F P n o in
-      let v4 = peel 4 (missing F P r || missing F P n || leb P.tickets o) _ a e in
+      let t : ℕ = ticket P n o in
+      let v4 = peel 4 (missing F r || missing F n || leb P.tickets o) _ a e in
       let v8 = peel 8 (not (complete t s.log) || not (eqb (aim (packet t s.log)) r)) _ a v4.1 in
       let c_a = or_parts (not (complete t s.log)) (not (eqb (aim (packet t s.log)) r)) v8.0 in
       record {
@@ -93,16 +93,16 @@ module _ (F : Fabric) (P : Settings) where
 
   inv_next : Lawful F.plan → (s : State) → Inv F P s 0 → (k : Call) → Inv F P (next F P s k) 0
   inv_next law s i (offer n o d ws) =
-      by_verdict (λ x. Inv F P x 0) (offer_verdict F P s n o d ws) (with_log F P s (offered (ticket F P n o) (record { destination = d; words = ws }))) s i
+      by_verdict (λ x. Inv F P x 0) (offer_verdict F P s n o d ws) (with_log s (offered (ticket P n o) (record { destination = d; words = ws }))) s i
       (λ a e.
       let z = offerable s n o d ws a e in
-      inv_offer F P s 0 i (ticket F P n o) (record { destination = d; words = ws }) z.is_free z.ticket_exists z.goes z.some z.short)
+      inv_offer F P s 0 i (ticket P n o) (record { destination = d; words = ws }) z.is_free z.ticket_exists z.goes z.some z.short)
   inv_next law s i (cycle q) =
       by_verdict (λ x. Inv F P x 0) (cycle_verdict F P s q) (cycled F P s) s i (λ a e. inv_cycle F P s i law)
   inv_next law s i (collect r n o memory) =
       by_verdict (λ x. Inv F P x 0) (collect_verdict F P s r n o memory)
-      (with_log F P s (collected (ticket F P n o) r (gathered (ticket F P n o) (size (packet (ticket F P n o) s.log)) s.log))) s i
-      (λ a e. let z = collectable s r n o memory a e in inv_collect F P s 0 i (ticket F P n o) r z.whole z.at_home)
+      (with_log s (collected (ticket P n o) r (collection s (ticket P n o)))) s i
+      (λ a e. let z = collectable s r n o memory a e in inv_collect F P s 0 i (ticket P n o) r z.whole z.at_home)
   inv_next law s i (look n p) = i
 
   pub invariant : Lawful F.plan → (run : List Call) → Inv F P (after F P run) 0
@@ -118,13 +118,13 @@ module _ (F : Fabric) (P : Settings) where
 
   pub steps : (s : State) (k : Call) → Still s (next F P s k) ⊎ (next F P s k ≡ cycled F P s)
   steps s (offer n o d ws) =
-      by_verdict (λ x. Still s x ⊎ (x ≡ cycled F P s)) (offer_verdict F P s n o d ws) (with_log F P s (offered (ticket F P n o) (record { destination = d; words = ws }))) s
+      by_verdict (λ x. Still s x ⊎ (x ≡ cycled F P s)) (offer_verdict F P s n o d ws) (with_log s (offered (ticket P n o) (record { destination = d; words = ws }))) s
       (inl (record { cycles = refl; slot = refl; newer = []; log = refl })) (λ a e. inl (record { cycles = refl; slot = refl; newer = _ ∷ []; log = refl }))
   steps s (cycle q) =
       by_verdict (λ x. Still s x ⊎ (x ≡ cycled F P s)) (cycle_verdict F P s q) (cycled F P s) s
       (inl (record { cycles = refl; slot = refl; newer = []; log = refl })) (λ a e. inr refl)
   steps s (collect r n o memory) =
       by_verdict (λ x. Still s x ⊎ (x ≡ cycled F P s)) (collect_verdict F P s r n o memory)
-      (with_log F P s (collected (ticket F P n o) r (gathered (ticket F P n o) (size (packet (ticket F P n o) s.log)) s.log))) s
+      (with_log s (collected (ticket P n o) r (collection s (ticket P n o)))) s
       (inl (record { cycles = refl; slot = refl; newer = []; log = refl })) (λ a e. inl (record { cycles = refl; slot = refl; newer = _ ∷ []; log = refl }))
   steps s (look n p) = inl (record { cycles = refl; slot = refl; newer = []; log = refl })

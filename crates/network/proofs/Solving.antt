@@ -81,7 +81,7 @@ module _ (F : Fabric) (P : Settings) where
     did = done F P s F.plan.nodes
 
     abbrev offer_leads : ℕ → ℕ → ℕ → List ℕ → Verdict (Unit {0}) → State
-    offer_leads n o d ws v = decided v (with_log F P s (offered (ticket F P n o) (record { destination = d; words = ws }))) s
+    offer_leads n o d ws v = decided v (with_log s (offered (ticket P n o) (record { destination = d; words = ws }))) s
 
     abbrev cycle_answers : Queue Event → Verdict (Unit {0}) → Outcome
     cycle_answers q v = cycling (granting (λ _. count_off did) v) (decided v (put_all q (told did)) q)
@@ -90,10 +90,10 @@ module _ (F : Fabric) (P : Settings) where
     cycle_leads v = decided v (cycled F P s) s
 
     abbrev collect_answers : ℕ → ℕ → List ℕ → Verdict ℕ → Outcome
-    collect_answers n o memory v = collecting v (decided v (over (collection F P s (ticket F P n o)) memory) memory)
+    collect_answers n o memory v = collecting v (decided v (over (collection s (ticket P n o)) memory) memory)
 
     abbrev collect_leads : ℕ → ℕ → ℕ → Verdict ℕ → State
-    collect_leads r n o v = decided v (with_log F P s (collected (ticket F P n o) r (collection F P s (ticket F P n o)))) s
+    collect_leads r n o v = decided v (with_log s (collected (ticket P n o) r (collection s (ticket P n o)))) s
 
     pub served : (k : Call) → Serves F P s k (outcome F P s k) (next F P s k)
     served (offer n o d ws) = go (offer_verdict F P s n o d ws) refl

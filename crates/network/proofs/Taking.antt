@@ -10,7 +10,7 @@ use Rattle.bounds.specs.declared.settings.Settings.{Settings}
 use Rattle.network.specs.Cycle.{Fabric, State}
 use Rattle.network.specs.Promises.{Same, Stands, OffOnce, NeverOff, InOneSlot, InNoSlot, OfPacket, OfferedLast}
 use Rattle.network.proofs.Stand.{stands_later, stands_cases, stands_older, Other, never_more, once_more, once_now}
-use Rattle.network.proofs.Invariant.{Sits, Waits, Inv, all_map}
+use Rattle.network.proofs.Invariant.{Sits, Waits, Inv, all_weaker}
 use Rattle.network.proofs.Moving.{Slots}
 
 -- the slots lose this flit
@@ -144,7 +144,7 @@ module _ (F : Fabric) (P : Settings) (s : State) (N : ℕ) (i : Inv F P s N) (ne
         opens = λ t o. let z = i.opens t o in record { ticket = z.ticket; goes = z.goes; short = z.short };
         right_words = right_words;
         unsent = unsent;
-        queue = λ m. all_map (Waits P s.log m) (Waits P log m) (λ u w. record { node = w.node; open_ticket = w.open_ticket; more = w.more }) (waiting P.tickets m s.log) (i.queue m);
+        queue = λ m. all_weaker (Waits P s.log m) (Waits P log m) (λ u w. record { node = w.node; open_ticket = w.open_ticket; more = w.more }) (waiting P.tickets m s.log) (i.queue m);
         queue_apart = i.queue_apart;
         timely = λ g m e. i.timely g m (stands_older e off_entered).0;
         apart = λ g h m k e d. let z = stands_older e off_entered in i.apart g h m k z.0 (subst (λ (x : Log). Stands (entered h k) x) (sym z.1) d);

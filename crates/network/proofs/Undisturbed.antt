@@ -10,15 +10,15 @@ use Rattle.network.specs.Log.Happening.{entered}
 use Rattle.bounds.specs.declared.settings.Settings.{Settings}
 use Rattle.network.specs.Cycle.{Fabric, State, off_at, entered_at}
 use Rattle.network.specs.Runs.{Call}
-use Rattle.network.specs.Computed.{taken, entering, done, arriving, cycled, next, after}
-use Rattle.network.specs.Promises.{Stands, Begins, NoneEntered}
+use Rattle.network.specs.Computed.{taken, entering, done, cycled, next, after}
+use Rattle.network.specs.Promises.{Stands, Begins, NoneEntered, Alike}
 use Rattle.network.proofs.Stand.{stands_now, stands_below}
 use Rattle.network.proofs.Nodes.{entering_ready}
 use Rattle.network.proofs.Moving.{Slots}
 use Rattle.network.proofs.Cycling.{ready_exists}
 use Rattle.network.proofs.Running.{Still, steps, invariant}
 use Rattle.network.proofs.Delivery.{same_golden}
-use Rattle.network.proofs.Alikes.{Like, Side, like_step, Tied, tied_step}
+use Rattle.network.proofs.Alikes.{Side, like_step, Tied, tied_step}
 
 pub stands_above : {h : Happening} (m l : Log) → Stands h m → Stands h (m ++ l)
 stands_above {h} m l e =
@@ -32,7 +32,7 @@ enters_told F P s (suc k) n p f h e = go (cases_eq n k) (λ l. enters_told F P s
   where
     go : (n ≡ k) ⊎ (n ≡ k → ⊥) → (n < k → Stands (entered f n) (done F P s k)) → Stands (entered f n) (done F P s (suc k))
     go (inl d) ih =
-        let u : entering F P s k ≡ Some (p, f) = sym (ap (λ (x : ℕ). entering F P s x) d) ∙ e in
+        let u : entering F P s k ≡ Some (p, f) = sym (ap (entering F P s) d) ∙ e in
         subst (λ (o : Option (Port × Flit)). Stands (entered f n) (entered_at k o ++ (off_at s.cycles k (taken F P s k) ++ done F P s k))) (sym u)
         (subst (λ (x : ℕ). Stands (entered f n) (entered f x ∷ (off_at s.cycles k (taken F P s k) ++ done F P s k))) d stands_now)
     go (inr d) ih = stands_below (entered_at k (entering F P s k)) (stands_below (off_at s.cycles k (taken F P s k)) (ih (omega arith)))
@@ -100,8 +100,8 @@ module _ (F : Fabric) (P : Settings) where
 module _ (F : Fabric) (P Q : Settings) (law : Lawful F.plan) (sw : LawfulSwitch F.turn) (epochs : Q.epoch ≡ P.epoch)
     (earlier earlier' : List Call) (t : ℕ) (begins : Begins F P t (after F P earlier)) (begins' : Begins F Q t (after F Q earlier'))
     (f g : Flit) (golden : f.ticket ≡ t) (golden' : g.ticket ≡ t) where
-  abbrev Bound : Slots → Slots → Type 0
-  Bound x y = Like t x y × Like t y x × Tied f g x y
+  abbrev Bound : State → State → Type 0
+  Bound s r = Alike t s r × Tied s r f g
 
   abbrev here : List Call → State
   here more = after F P (more ++ earlier)
@@ -116,23 +116,22 @@ module _ (F : Fabric) (P Q : Settings) (law : Lawful F.plan) (sw : LawfulSwitch 
   NoneThere s = NoneEntered t (after F Q earlier') s
 
   both_step : (more more' : List Call) (k : ℕ) → k < P.epoch → (here more).cycles ≡ (after F P earlier).cycles + k → (there more').cycles ≡ (after F Q earlier').cycles + k →
-      NoneHere (cycled F P (here more)) → NoneThere (cycled F Q (there more')) → Bound (here more).slot (there more').slot → Bound (arriving F P (here more)) (arriving F Q (there more'))
+      NoneHere (cycled F P (here more)) → NoneThere (cycled F Q (there more')) → Bound (here more) (there more') → Bound (cycled F P (here more)) (cycled F Q (there more'))
   both_step more more' k small c c' h h' x =
       let a : Side F t P (here more) = side F P t earlier more k law begins small c h in
       let b : Side F t Q (there more') = side F Q t earlier' more' k law begins' (omega arith) c' h' in (
-        like_step F law sw t P (here more) a Q (there more') b x.0 x.1,
-        like_step F law sw t Q (there more') b P (here more) a x.1 x.0,
-        tied_step F law sw t P (here more) a Q (there more') b x.0 x.1 f g golden golden' x.2,
+        (like_step F law sw t P (here more) a Q (there more') b x.0.0 x.0.1, like_step F law sw t Q (there more') b P (here more) a x.0.1 x.0.0),
+        tied_step F law sw t P (here more) a Q (there more') b x.0.0 x.0.1 f g golden golden' x.1,
       )
 
   -- while no cycle is carried out
-  idle : Bound (here []).slot (there []).slot → (more' : List Call) → (there more').cycles ≡ (after F Q earlier').cycles + 0 → Bound (here []).slot (there more').slot
+  idle : Bound (here []) (there []) → (more' : List Call) → (there more').cycles ≡ (after F Q earlier').cycles + 0 → Bound (here []) (there more')
   idle x [] c = x
   idle x (k ∷ more') c = go (steps F Q (there more') k) (idle x more')
     where
-      go : Still F Q (there more') (there (k ∷ more')) ⊎ (there (k ∷ more') ≡ cycled F Q (there more')) → ((there more').cycles ≡ (after F Q earlier').cycles + 0 → Bound (here []).slot (there more').slot) →
-          Bound (here []).slot (there (k ∷ more')).slot
-      go (inl z) ih = subst (λ (y : Slots). Bound (here []).slot y) (sym z.slot) (ih (sym z.cycles ∙ c))
+      go : Still F Q (there more') (there (k ∷ more')) ⊎ (there (k ∷ more') ≡ cycled F Q (there more')) → ((there more').cycles ≡ (after F Q earlier').cycles + 0 → Bound (here []) (there more')) →
+          Bound (here []) (there (k ∷ more'))
+      go (inl z) ih = subst (λ (y : Slots). Bound (here []) (record (there more') { slot = y })) (sym z.slot) (ih (sym z.cycles ∙ c))
       go (inr z) ih =
           let g = (grew F Q more' earlier').cycles in
           let d : (there more').cycles + 1 ≡ (after F Q earlier').cycles + 0 = sym (ap (λ (y : State). y.cycles) z) ∙ c in
@@ -140,37 +139,37 @@ module _ (F : Fabric) (P Q : Settings) (law : Lawful F.plan) (sw : LawfulSwitch 
 
   abbrev Follows : List Call → Type 0
   Follows more = (more' : List Call) (k : ℕ) → k ≤ P.epoch → (here more).cycles ≡ (after F P earlier).cycles + k → (there more').cycles ≡ (after F Q earlier').cycles + k →
-      NoneHere (here more) → NoneThere (there more') → Bound (here more).slot (there more').slot
+      NoneHere (here more) → NoneThere (there more') → Bound (here more) (there more')
 
   -- a cycle is carried out here: the other goes on to its own
   catch : (more : List Call) → Follows more → NoneHere (cycled F P (here more)) → (k : ℕ) → k < P.epoch → (here more).cycles ≡ (after F P earlier).cycles + k →
-      (more' : List Call) → (there more').cycles ≡ (after F Q earlier').cycles + (k + 1) → NoneThere (there more') → Bound (arriving F P (here more)) (there more').slot
+      (more' : List Call) → (there more').cycles ≡ (after F Q earlier').cycles + (k + 1) → NoneThere (there more') → Bound (cycled F P (here more)) (there more')
   catch more ih h k small c [] c' h' = absurd (omega arith)
   catch more ih h k small c (d ∷ more') c' h' = go (steps F Q (there more') d) (catch more ih h k small c more')
     where
       go : Still F Q (there more') (there (d ∷ more')) ⊎ (there (d ∷ more') ≡ cycled F Q (there more')) →
-          ((there more').cycles ≡ (after F Q earlier').cycles + (k + 1) → NoneThere (there more') → Bound (arriving F P (here more)) (there more').slot) →
-          Bound (arriving F P (here more)) (there (d ∷ more')).slot
+          ((there more').cycles ≡ (after F Q earlier').cycles + (k + 1) → NoneThere (there more') → Bound (cycled F P (here more)) (there more')) →
+          Bound (cycled F P (here more)) (there (d ∷ more'))
       go (inl z) again =
-          subst (λ (y : Slots). Bound (arriving F P (here more)) y) (sym z.slot)
+          subst (λ (y : Slots). Bound (cycled F P (here more)) (record (there more') { slot = y })) (sym z.slot)
           (again (sym z.cycles ∙ c') (earlier_none F Q t (after F Q earlier') (there more') (there (d ∷ more')) z.newer z.log h'))
       go (inr z) again =
           let e : (there more').cycles + 1 ≡ (after F Q earlier').cycles + (k + 1) = sym (ap (λ (y : State). y.cycles) z) ∙ c' in
           let n : NoneThere (cycled F Q (there more')) = subst (λ (y : State). NoneThere y) z h' in
-          subst (λ (y : State). Bound (arriving F P (here more)) y.slot) (sym z)
+          subst (Bound (cycled F P (here more))) (sym z)
           (both_step more more' k small c (omega arith) h n
           (ih more' k (omega arith) c (omega arith)
           (earlier_none F P t (after F P earlier) (here more) (cycled F P (here more)) (done F P (here more) F.plan.nodes) refl h)
           (earlier_none F Q t (after F Q earlier') (there more') (cycled F Q (there more')) (done F Q (there more') F.plan.nodes) refl n)))
 
-  pub follow : Bound (here []).slot (there []).slot → (more : List Call) → Follows more
+  pub follow : Bound (here []) (there []) → (more : List Call) → Follows more
   follow x [] more' k small c c' h h' = idle x more' (let z : k ≡ 0 = omega arith in subst (λ (y : ℕ). (there more').cycles ≡ (after F Q earlier').cycles + y) z c')
   follow x (d ∷ more) more' k small c c' h h' = go (steps F P (here more) d) (follow x more) k small c c'
     where
       go : Still F P (here more) (here (d ∷ more)) ⊎ (here (d ∷ more) ≡ cycled F P (here more)) → Follows more →
-          (k : ℕ) → k ≤ P.epoch → (here (d ∷ more)).cycles ≡ (after F P earlier).cycles + k → (there more').cycles ≡ (after F Q earlier').cycles + k → Bound (here (d ∷ more)).slot (there more').slot
+          (k : ℕ) → k ≤ P.epoch → (here (d ∷ more)).cycles ≡ (after F P earlier).cycles + k → (there more').cycles ≡ (after F Q earlier').cycles + k → Bound (here (d ∷ more)) (there more')
       go (inl z) ih k small c c' =
-          subst (λ (y : Slots). Bound y (there more').slot) (sym z.slot)
+          subst (λ (y : Slots). Bound (record (here more) { slot = y }) (there more')) (sym z.slot)
           (ih more' k small (sym z.cycles ∙ c) c' (earlier_none F P t (after F P earlier) (here more) (here (d ∷ more)) z.newer z.log h) h')
       go (inr z) ih zero small c c' =
           let g = (grew F P more earlier).cycles in
@@ -179,5 +178,5 @@ module _ (F : Fabric) (P Q : Settings) (law : Lawful F.plan) (sw : LawfulSwitch 
       go (inr z) ih (suc k) small c c' =
           let e : (here more).cycles + 1 ≡ (after F P earlier).cycles + suc k = sym (ap (λ (y : State). y.cycles) z) ∙ c in
           let n : NoneHere (cycled F P (here more)) = subst (λ (y : State). NoneHere y) z h in
-          subst (λ (y : State). Bound y.slot (there more').slot) (sym z)
+          subst (λ (y : State). Bound y (there more')) (sym z)
           (catch more ih n k (omega arith) (omega arith) more' (omega arith) h')

@@ -114,10 +114,10 @@ decided (refused k vs) x y = y
 module _ (F : Fabric) (P : Settings) where
   abbrev pub next : State → Call → State
   next s (offer n o d ws) =
-      decided (offer_verdict F P s n o d ws) (with_log F P s (offered (ticket F P n o) (record { destination = d; words = ws }))) s
+      decided (offer_verdict F P s n o d ws) (with_log s (offered (ticket P n o) (record { destination = d; words = ws }))) s
   next s (cycle q) = decided (cycle_verdict F P s q) (cycled F P s) s
   next s (collect r n o memory) =
-      decided (collect_verdict F P s r n o memory) (with_log F P s (collected (ticket F P n o) r (collection F P s (ticket F P n o)))) s
+      decided (collect_verdict F P s r n o memory) (with_log s (collected (ticket P n o) r (collection s (ticket P n o)))) s
   next s (look n p) = s
 
   abbrev pub outcome : State → Call → Outcome
@@ -127,7 +127,7 @@ module _ (F : Fabric) (P : Settings) where
       (decided (cycle_verdict F P s q) (put_all q (told (done F P s F.plan.nodes))) q)
   outcome s (collect r n o memory) =
       collecting (collect_verdict F P s r n o memory)
-      (decided (collect_verdict F P s r n o memory) (over (collection F P s (ticket F P n o)) memory) memory)
+      (decided (collect_verdict F P s r n o memory) (over (collection s (ticket P n o)) memory) memory)
   outcome s (look n p) = looking (look_verdict F P s n p)
 
   abbrev pub after : List Call → State

@@ -65,23 +65,32 @@ put_all q (x ∷ xs) = put_all (put q x) xs
 abbrev pub over : List ℕ → List ℕ → List ℕ
 over ws memory = ws ++ drop (length ws) memory
 
+-- own ticket o of node n
+abbrev pub ticket : Settings → ℕ → ℕ → ℕ
+ticket P n o = n * P.tickets + o
+
+-- there is no node n
+abbrev pub missing : Fabric → ℕ → Bool
+missing F n = nat_le F.plan.nodes n
+
+-- the words of a packet as they were taken off
+abbrev pub collection : State → ℕ → List ℕ
+collection s t = gathered t (size (packet t s.log)) s.log
+
+-- the state with one happening more
+abbrev pub with_log : State → Happening → State
+with_log s h = record { cycles = s.cycles; slot = s.slot; log = h ∷ s.log }
+
 module _ (F : Fabric) (P : Settings) where
-  -- own ticket o of node n
-  abbrev pub ticket : ℕ → ℕ → ℕ
-  ticket n o = n * P.tickets + o
-
-  abbrev pub missing : ℕ → Bool
-  missing n = nat_le F.plan.nodes n
-
   -- 4: the node or its own ticket does not exist; 5: the destination does not exist or is the node itself;
   -- 6: there are no words, or too many; 7: the ticket is not free
   abbrev pub offer_verdict : State → ℕ → ℕ → ℕ → List ℕ → Verdict (Unit {0})
   offer_verdict s n o d ws =
       judged
-      ((4, missing n || nat_le P.tickets o)
-      ∷ (5, missing d || d == n)
+      ((4, missing F n || nat_le P.tickets o)
+      ∷ (5, missing F d || d == n)
       ∷ (6, (length ws == 0) || nat_lt P.words (length ws))
-      ∷ (7, not (free (ticket n o) s.log))
+      ∷ (7, not (free (ticket P n o) s.log))
       ∷ [])
       tt
 
@@ -94,17 +103,13 @@ module _ (F : Fabric) (P : Settings) where
       ∷ [])
       tt
 
-  -- the words of a packet as they were taken off
-  abbrev pub collection : State → ℕ → List ℕ
-  collection s t = gathered t (size (packet t s.log)) s.log
-
   -- 4: a node or the own ticket does not exist; 8: the ticket is not complete, or its packet has another destination;
   -- 9: the memory is shorter than the packet
   abbrev pub collect_verdict : State → ℕ → ℕ → ℕ → List ℕ → Verdict ℕ
   collect_verdict s r n o memory =
-      let t : ℕ = ticket n o in
+      let t : ℕ = ticket P n o in
       judged
-      ((4, missing r || missing n || nat_le P.tickets o)
+      ((4, missing F r || missing F n || nat_le P.tickets o)
       ∷ (8, not (complete t s.log) || not (aim (packet t s.log) == r))
       ∷ (9, nat_lt (length memory) (size (packet t s.log)))
       ∷ [])
@@ -113,16 +118,12 @@ module _ (F : Fabric) (P : Settings) where
   -- 4: the node or the port does not exist
   abbrev pub look_verdict : State → ℕ → ℕ → Verdict (Option Flit)
   look_verdict s n p =
-      judged ((4, missing n || nat_le 4 p) ∷ []) (s.slot n (port_of p))
-
-  -- the state with one happening more
-  abbrev pub with_log : State → Happening → State
-  with_log s h = record { cycles = s.cycles; slot = s.slot; log = h ∷ s.log }
+      judged ((4, missing F n || nat_le 4 p) ∷ []) (s.slot n (port_of p))
 
   -- in state s a call has an outcome and leads to a state: where it is refused, nothing changes
   pub data Serves (s : State) : Call → Outcome → State → Type 0 where
     offer_granted : {n o d : ℕ} {ws : List ℕ} → offer_verdict s n o d ws ≡ granted tt →
-        Serves s (offer n o d ws) (offering (granted tt)) (with_log s (offered (ticket n o) (record { destination = d; words = ws })))
+        Serves s (offer n o d ws) (offering (granted tt)) (with_log s (offered (ticket P n o) (record { destination = d; words = ws })))
     offer_refused : {n o d k : ℕ} {ws vs : List ℕ} → offer_verdict s n o d ws ≡ refused k vs →
         Serves s (offer n o d ws) (offering (refused k vs)) s
     -- the events of the cycle are put into the line, and the flits taken off are counted
@@ -131,8 +132,8 @@ module _ (F : Fabric) (P : Settings) where
     cycle_refused : {q : Queue Event} {k : ℕ} {vs : List ℕ} → cycle_verdict s q ≡ refused k vs →
         Serves s (cycle q) (cycling (refused k vs) q) s
     collect_granted : {r n o k : ℕ} {memory : List ℕ} → collect_verdict s r n o memory ≡ granted k →
-        Serves s (collect r n o memory) (collecting (granted k) (over (collection s (ticket n o)) memory))
-        (with_log s (collected (ticket n o) r (collection s (ticket n o))))
+        Serves s (collect r n o memory) (collecting (granted k) (over (collection s (ticket P n o)) memory))
+        (with_log s (collected (ticket P n o) r (collection s (ticket P n o))))
     collect_refused : {r n o k : ℕ} {memory vs : List ℕ} → collect_verdict s r n o memory ≡ refused k vs →
         Serves s (collect r n o memory) (collecting (refused k vs) memory) s
     looks : {n p : ℕ} → Serves s (look n p) (looking (look_verdict s n p)) s

@@ -1,6 +1,5 @@
 pub mod Beginning
 pub mod Events
-pub mod Fabrics
 pub mod Listing
 pub mod Only
 pub mod Pages

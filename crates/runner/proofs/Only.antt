@@ -90,8 +90,8 @@ module _ (F : Fabric) (P : Settings) where
   abbrev collected_one : ℕ → ℕ → State × Lines → State × Lines
   collected_one c g x =
       let r = x.0 in
-      let ws = collection F P r g in
-      cond (complete g r.log) (with_log F P r (collected g (aim (packet g r.log)) ws), x.1 ++ done_line c g ws ∷ []) x
+      let ws = collection r g in
+      cond (complete g r.log) (with_log r (collected g (aim (packet g r.log)) ws), x.1 ++ done_line c g ws ∷ []) x
 
   abbrev collected_all : ℕ → State → ℕ → State × Lines
   collected_all c s zero = (s, [])
@@ -145,10 +145,10 @@ module _ (F : Fabric) (P : Settings) where
     collects_are : {c : ℕ} {s : State} {g : ℕ} {r : State} {ls : Lines} → Collects F P c s g r ls → ◌≡◌ {A = State × Lines} (r, ls) (collected_all c s g)
     collects_are none_collected = refl
     collects_are {c} {s} (brought {g} {n} {o} {k} {r} {t} {ls} h whole e v) =
-        let log_of = λ (u : ℕ). with_log F P r (collected u (aim (packet g r.log)) (collection F P r u)) in
+        let log_of = λ (u : ℕ). with_log r (collected u (aim (packet g r.log)) (collection r u)) in
         let line_after = λ (ws : List ℕ). ls ++ done_line c g ws ∷ [] in
-        let step : ◌≡◌ {A = State × Lines} (t, line_after (take k _)) (log_of g, line_after (collection F P r g)) =
-        λ i. (((collect_did F P v).1.1 ∙ ap log_of e) i, line_after ((collect_taken F P v ∙ ap (collection F P r) e) i)) in
+        let step : ◌≡◌ {A = State × Lines} (t, line_after (take k _)) (log_of g, line_after (collection r g)) =
+        λ i. (((collect_did F P v).1.1 ∙ ap log_of e) i, line_after ((collect_taken F P v ∙ ap (collection r) e) i)) in
         step ∙ sym (cond-true _ _ _ whole) ∙ ap (collected_one c g) (collects_are h) ∙ ap (collected_all c s) (sym (add-one g))
     collects_are {c} {s} (left {g} {r} {ls} h part) =
         sym (cond-false _ _ _ part) ∙ ap (collected_one c g) (collects_are h) ∙ ap (collected_all c s) (sym (add-one g))

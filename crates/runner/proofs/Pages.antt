@@ -10,7 +10,7 @@ use Rattle.text.specs.Texts.{Field, written, text}
 use Rattle.writer.specs.declared.writer.Writer.{Writer}
 use Rattle.writer.specs.Listings.{beyond, Appends}
 use Rattle.writer.proofs.Lengths.{length_event}
-use Rattle.network.specs.Kinds.{kind_word}
+use Rattle.network.specs.Kinds.{event_word}
 use Rattle.runner.specs.Listing.{line_of, enters, leaves, ins, outs}
 use Rattle.runner.specs.Tallies.{Small}
 use Rattle.runner.proofs.Events.{sums_cons}
@@ -19,10 +19,10 @@ use Rattle.runner.specs.Progress.{Page}
 -- the line of an event has few bytes
 line_short : (e : Event) → Small e → length (written (line_of e)) ≤ 20
 line_short e h =
-    length_event e.cycle e.ticket e.number e.node (kind_word e.kind) h.cycle (word_short e.kind)
+    length_event e.cycle e.ticket e.number e.node (event_word e.kind) h.cycle (word_short e.kind)
     (let x = h.ticket in omega arith) (let x = h.number in omega arith) (let x = h.node in omega arith)
   where
-    word_short : (k : Kind) → length (kind_word k) ≤ 3
+    word_short : (k : Kind) → length (event_word k) ≤ 3
     word_short In = omega arith
     word_short Out = omega arith
 

@@ -1,5 +1,5 @@
 -- What each call of a sheet's run brings: the state after it, and the lines that are written of it.
-use Rattle.std.proofs.Common.{◌≡◌, ℕ, zero, suc, ◌+◌, ◌*◌, ◌/◌, ◌%◌, ◌^◌, ◌<◌, ◌≤◌, Bool, true, false, cond, not, ◌||◌, eqb, ltb, leb, ◌⊎◌, List, [], ◌∷◌, ◌++◌, map, length, get_or, take, drop, set, Some, None, Option, sym, refl, ap, ◌∙◌, subst, ap₂, inl, inr, arith}
+use Rattle.std.proofs.Common.{◌≡◌, ℕ, ◌+◌, ◌*◌, ◌/◌, ◌%◌, ◌^◌, ◌<◌, ◌≤◌, Bool, true, false, cond, not, ◌||◌, eqb, ltb, leb, ◌⊎◌, List, [], ◌∷◌, ◌++◌, map, length, get_or, take, drop, set, Some, None, Option, sym, refl, ap, ◌∙◌, subst, ap₂, inl, inr, arith}
 use Rattle.std.specs.List.{AllByRecursion}
 use Rattle.std.proofs.lemmas.Nat.{div_below, mod_below, div-add-mod'}
 use Rattle.std.proofs.lemmas.List.{length-append, length-set, get_or-set_same, get_or-set_other, take-append-le, take_all}
@@ -10,7 +10,7 @@ use Rattle.line.specs.Queues.{Queue, Sound, contents, free_places}
 use Rattle.bounds.specs.declared.settings.Settings.{Settings}
 use Rattle.bounds.specs.SetUp.{all_tickets, set_up_verdict}
 use Rattle.network.specs.declared.event.Event.{Event}
-use Rattle.network.specs.Log.{Log, Packet as Load, packet, size, aim, free, complete, gathered}
+use Rattle.network.specs.Log.{Log, Packet as Load, packet, size, aim, free, received, complete}
 use Rattle.network.specs.Log.Happening.{offered, entered, off, collected}
 use Rattle.network.specs.Cycle.{Fabric, State, happened}
 use Rattle.network.specs.Runs.{Call, Outcome, Serves, Leads, ticket, missing, offer_verdict, cycle_verdict, collect_verdict, collection, with_log, told, count_off, over}
@@ -21,6 +21,7 @@ use Rattle.network.specs.Runs.Leads.{one_more}
 use Rattle.network.specs.Promises.{puts, Kept}
 use Rattle.network.proofs.Invariant.{Inv, Opened}
 use Rattle.network.proofs.Running.{peel, invariant}
+use Rattle.network.proofs.Offering.{length_words}
 use Rattle.network.proofs.Solving.{led_one, all_told}
 use Rattle.network.proofs.Seen.{seen}
 use Rattle.calls.specs.declared.tables.Tables.{Tables}
@@ -55,35 +56,29 @@ narrow_at (entered f n ∷ l) older u p h = narrow_at l older u p h
 narrow_at (off f n c ∷ l) older u p h = narrow_at l older u p h
 narrow_at (collected x r ws ∷ l) older u p h = narrow_at l older u p h
 
-length_gathered : (u m : ℕ) (l : Log) → length (gathered u m l) ≡ m
-length_gathered u zero l = refl
-length_gathered u (suc m) l =
-    let h = length_gathered u m l in
-    length-append (gathered u m l) _ ∙ omega arith
-
 -- a collection that was granted: what it does, that its ticket is complete, and the words that it brings
 module _ (F : Fabric) (P : Settings) where
   pub collect_did : {s : State} {d n m k : ℕ} {memory m' : List ℕ} {r : State} → Serves F P s (collect d n m memory) (collecting (granted k) m') r →
-      (collect_verdict F P s d n m memory ≡ granted k) × ((m' ≡ over (collection F P s (ticket F P n m)) memory) × (r ≡ with_log F P s (collected (ticket F P n m) d (collection F P s (ticket F P n m)))))
+      (collect_verdict F P s d n m memory ≡ granted k) × ((m' ≡ over (collection s (ticket P n m)) memory) × (r ≡ with_log s (collected (ticket P n m) d (collection s (ticket P n m)))))
   collect_did (collect_granted e) = (e, (refl, refl))
 
   module _ {s : State} {d n m k : ℕ} {memory m' : List ℕ} {r : State} (v : Serves F P s (collect d n m memory) (collecting (granted k) m') r) where
-    pub collect_tested : (complete (ticket F P n m) s.log ≡ true) × (size (packet (ticket F P n m) s.log) ≡ k)
+    pub collect_tested : (complete (ticket P n m) s.log ≡ true) × (size (packet (ticket P n m) s.log) ≡ k)
     collect_tested =
-        let u = ticket F P n m in
-        let v4 = peel 4 (missing F P d || missing F P n || leb P.tickets m) _ k (collect_did v).0 in
+        let u = ticket P n m in
+        let v4 = peel 4 (missing F d || missing F n || leb P.tickets m) _ k (collect_did v).0 in
         let v8 = peel 8 (not (complete u s.log) || not (eqb (aim (packet u s.log)) d)) _ k v4.1 in
         let v9 = peel 9 (ltb (length memory) (size (packet u s.log))) _ k v8.1 in (
           not-false (complete u s.log) (or_parts (not (complete u s.log)) (not (eqb (aim (packet u s.log)) d)) v8.0).0,
           let e = v9.1 in cc,
         )
 
-    pub collect_taken : take k m' ≡ collection F P s (ticket F P n m)
+    pub collect_taken : take k m' ≡ collection s (ticket P n m)
     collect_taken =
-        let u = ticket F P n m in
-        let ws = collection F P s u in
+        let u = ticket P n m in
+        let ws = collection s u in
         let exact = collect_tested.1 in
-        let long = length_gathered u (size (packet u s.log)) s.log in
+        let long = length_words (λ j. received u j s.log) (size (packet u s.log)) in
         ap (take k) (collect_did v).1.0 ∙ take-append-le k ws (drop (length ws) memory) (omega (arith, exact, long)) ∙ take_all k ws (omega (arith, exact, long))
 
 -- no listing comes near the end of its memory
@@ -149,13 +144,13 @@ module _ (F : Fabric) (P : Settings) (law : Lawful F.plan) {M : List ℕ} {i : T
 
   -- what a granted offer was tested for, and what it logs
   offer_did : {n m d : ℕ} {ws : List ℕ} {r : State} → Serves F P s (offer n m d ws) (offering (granted tt)) r →
-      (offer_verdict F P s n m d ws ≡ granted tt) × (r ≡ with_log F P s (offered (ticket F P n m) (record { destination = d; words = ws })))
+      (offer_verdict F P s n m d ws ≡ granted tt) × (r ≡ with_log s (offered (ticket P n m) (record { destination = d; words = ws })))
   offer_did (offer_granted e) = (e, refl)
 
   own_exists : (n m d : ℕ) (ws : List ℕ) → offer_verdict F P s n m d ws ≡ granted tt → (n < F.plan.nodes) × (m < P.tickets)
   own_exists n m d ws e =
-      let v4 = peel 4 (missing F P n || leb P.tickets m) _ tt e in
-      let x = or_parts (missing F P n) (leb P.tickets m) v4.0 in
+      let v4 = peel 4 (missing F n || leb P.tickets m) _ tt e in
+      let x = or_parts (missing F n) (leb P.tickets m) v4.0 in
       (leb-false F.plan.nodes n x.0, leb-false P.tickets m x.1)
 
   aimed_offer : (u d : ℕ) (ws : List ℕ) → u < 512 → Aimed (all_tickets F.plan P) (set aims u (Some d)) (offered u (record { destination = d; words = ws }) ∷ s.log)
@@ -342,7 +337,7 @@ module _ (F : Fabric) (P : Settings) (law : Lawful F.plan) {M : List ℕ} {i : T
     pub exists : g < all_tickets F.plan P
     pub node : n < F.plan.nodes
     pub own : m < P.tickets
-    pub ticket : ticket F P n m ≡ g
+    pub ticket : ticket P n m ≡ g
 
   pub numbered : (g : ℕ) → g < all_tickets F.plan P → Numbered g (g / P.tickets) (g % P.tickets)
   numbered g h =
@@ -413,18 +408,18 @@ module _ (F : Fabric) (P : Settings) (law : Lawful F.plan) {M : List ℕ} {i : T
       }
     where
       u : ℕ
-      u = ticket F P n m
+      u = ticket P n m
 
       ws : List ℕ
-      ws = collection F P s u
+      ws = collection s u
 
       y : Moved F P j s (collect d n m memory) (collecting (granted k) m')
       y = moved p
 
-      did : (collect_verdict F P s d n m memory ≡ granted k) × ((m' ≡ over ws memory) × (y.state ≡ with_log F P s (collected u d ws)))
+      did : (collect_verdict F P s d n m memory ≡ granted k) × ((m' ≡ over ws memory) × (y.state ≡ with_log s (collected u d ws)))
       did = collect_did F P y.serves
 
-      kept_so : Kept F P y.calls.run (with_log F P s (collected u d ws))
+      kept_so : Kept F P y.calls.run (with_log s (collected u d ws))
       kept_so = subst (λ (r : State). Kept F P y.calls.run r) did.1.1 y.kept
 
       offer_of_it : (length ws ≤ 4) × AllByRecursion (λ v. v < 2 ^ 32) ws
@@ -436,7 +431,7 @@ module _ (F : Fabric) (P : Settings) (law : Lawful F.plan) {M : List ℕ} {i : T
       tested = collect_tested F P y.serves
 
       long : length ws ≡ size (packet u s.log)
-      long = length_gathered u (size (packet u s.log)) s.log
+      long = length_words (λ j. received u j s.log) (size (packet u s.log))
 
       taken : take k m' ≡ ws
       taken = collect_taken F P y.serves
@@ -473,7 +468,7 @@ module _ (F : Fabric) (P : Settings) (law : Lawful F.plan) {M : List ℕ} {i : T
       go : (c : Bool) → complete g s.log ≡ c → complete g s.log ≡ false
       go false e = e
       go true e =
-          let u = ticket F P n m in
+          let u = ticket P n m in
           let whole : complete u s.log ≡ true = subst (λ (x : ℕ). complete x s.log ≡ true) (sym at.ticket) e in
           let there : aim (packet u s.log) ≡ d = subst (λ (x : ℕ). aim (packet x s.log) ≡ d) (sym at.ticket) b.goes in
           let goes : d < F.plan.nodes = let q = opened.goes in let z = b.goes in omega arith in

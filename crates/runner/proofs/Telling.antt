@@ -15,7 +15,7 @@ use Rattle.writer.specs.Listings.{beyond, Appends, LineOut, event_line}
 use Rattle.writer.proofs.Outcomes.{with_room}
 use Rattle.writer.proofs.Written.{appends_both}
 use Rattle.runner.specs.declared.tally.Tally.{Tally}
-use Rattle.network.specs.Kinds.{kind_word}
+use Rattle.network.specs.Kinds.{event_word}
 use Rattle.runner.specs.Listing.{line_of, enters, leaves}
 use Rattle.runner.specs.Tallies.{Counts, Tellable, Told}
 use Rattle.runner.proofs.Events.{sums_append, sums_cons}
@@ -29,11 +29,11 @@ text_both : (a b : List Event) → text (map line_of (a ++ b)) ≡ text (map lin
 text_both a b = ap text (map-append line_of a b) ∙ flat_map-append written (map line_of a) (map line_of b)
 
 -- the line of an event, by the words and numbers that were handed over
-pub as_line : {w w' : Writer} {v : Verdict (Unit {0})} (e : Event) {kind : List ℕ} {a b c : ℕ} → kind ≡ kind_word e.kind → a ≡ e.ticket → b ≡ e.number → c ≡ e.node →
+pub as_line : {w w' : Writer} {v : Verdict (Unit {0})} (e : Event) {kind : List ℕ} {a b c : ℕ} → kind ≡ event_word e.kind → a ≡ e.ticket → b ≡ e.number → c ≡ e.node →
     LineOut w (event_line e.cycle kind a b c) w' v → LineOut w (line_of e) w' v
 as_line {w} {w'} {v} e {kind} {a} {b} {c} h x y z =
     subst (λ (l : List Field). LineOut w l w' v)
-    (ap₂ (λ (k : List ℕ) (m : ℕ). event_line e.cycle k m b c) h x ∙ ap₂ (λ (k m : ℕ). event_line e.cycle (kind_word e.kind) e.ticket k m) y z)
+    (ap₂ (λ (k : List ℕ) (m : ℕ). event_line e.cycle k m b c) h x ∙ ap₂ (λ (k m : ℕ). event_line e.cycle (event_word e.kind) e.ticket k m) y z)
 
 -- one event
 pub one_told : {t t' : Tally} {w w' : Writer} (e : Event) (r : Result (Unit {0}) Refusal) → Tellable t w (e ∷ []) →

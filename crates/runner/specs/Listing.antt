@@ -6,7 +6,7 @@ use Rattle.line.specs.Queues.{Queue}
 use Rattle.bounds.specs.declared.settings.Settings.{Settings}
 use Rattle.bounds.specs.SetUp.{all_tickets}
 use Rattle.network.specs.declared.event.Event.{Event}
-use Rattle.network.specs.Kinds.{kind_word}
+use Rattle.network.specs.Kinds.{event_word}
 use Rattle.network.specs.declared.event.Kind.{Kind}
 use Rattle.network.specs.declared.event.Kind.TheVariants.{In, Out}
 use Rattle.network.specs.Log.{complete, aim, packet}
@@ -23,7 +23,7 @@ use Rattle.writer.specs.Listings.{event_line, no_line, done_line, end_line}
 -- Events.
 
 abbrev pub line_of : Event → List Field
-line_of e = event_line e.cycle (kind_word e.kind) e.ticket e.number e.node
+line_of e = event_line e.cycle (event_word e.kind) e.ticket e.number e.node
 
 -- how many flits entered, and how many were taken off
 abbrev pub enters : Kind → ℕ
@@ -66,7 +66,7 @@ module _ (F : Fabric) (P : Settings) where
   pub data Collects (c : ℕ) (s : State) : ℕ → State → List (List Field) → Type 0 where
     none : Collects c s 0 s []
     brought : {g n o k : ℕ} {r t : State} {ls : List (List Field)} {memory written : List ℕ} → Collects c s g r ls →
-        complete g r.log ≡ true → ticket F P n o ≡ g →
+        complete g r.log ≡ true → ticket P n o ≡ g →
         Serves F P r (collect (aim (packet g r.log)) n o memory) (collecting (granted k) written) t →
         Collects c s (g + 1) t (ls ++ done_line c g (take k written) ∷ [])
     left : {g : ℕ} {r : State} {ls : List (List Field)} → Collects c s g r ls → complete g r.log ≡ false → Collects c s (g + 1) r ls

@@ -4,7 +4,7 @@ use Rattle.fabric.specs.declared.mesh.Mesh.{Mesh}
 use Rattle.fabric.specs.Layouts.{Plan, Lawful}
 use Rattle.fabric.specs.Meshes.{mesh_plan}
 use Rattle.fabric.specs.Verdicts.{Verdict, value_or}
-use Rattle.fabric.specs.Verdicts.Verdict.{granted, refused}
+use Rattle.fabric.specs.Verdicts.Verdict.{granted}
 use Rattle.fabric.specs.Grid.{mesh_lawful}
 use Rattle.switch.specs.Chippers.{chipper_turn}
 use Rattle.line.specs.Queues.{Queue, empty}

@@ -38,10 +38,10 @@ impl Tables {
         ensures { Accepts self.old self.new node ticket destination words.now }
     {
         self.tickets[ticket] = Some(Ticket::new(destination as u8, words));
-        let mut line = self.waits[node];
-        // a node with a free ticket has a place in its line
-        let _ = line.push(ticket as u16);
-        self.waits[node] = line;
+        let mut waiting = self.waits[node];
+        // a node with a free ticket has room for one more that waits
+        let _ = waiting.push(ticket as u16);
+        self.waits[node] = waiting;
     }
 
     // The packet under a ticket, if it is complete and goes to this node.
@@ -90,9 +90,9 @@ impl Tables {
         };
         let flit = packet.send(ticket, cycle);
         if packet.sent == packet.size {
-            let mut line = self.waits[node];
-            line.remove_first();
-            self.waits[node] = line;
+            let mut waiting = self.waits[node];
+            waiting.remove_first();
+            self.waits[node] = waiting;
         }
         flit
     }

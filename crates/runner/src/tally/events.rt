@@ -2,7 +2,6 @@
 ghost use Rattle.std.specs.Prelude.{◌≡◌, ◌+◌, ◌-◌, ◌*◌, ◌≤◌, [], ◌∷◌, Ok};
 ghost use Rattle.line.specs.Lines.{holds, SameLender as SameLine};
 ghost use Rattle.writer.specs.Listings.{SameLender};
-ghost use Rattle.network.specs.Kinds.{kind_word};
 ghost use Rattle.runner.specs.Listing.{enters, leaves, mean_of};
 ghost use Rattle.runner.specs.Tallies.{Counts, Tellable, Told};
 
@@ -11,16 +10,6 @@ use fabric::refusal::Refusal;
 use line::Line;
 use network::event::{Event, Kind};
 use writer::Writer;
-
-// Beside Kind's Display: the words of a listing are fixed byte strings.
-fn word(kind: Kind) -> &'static [u8]
-    ensures { result.now ≡ kind_word kind }
-{
-    match kind {
-        Kind::In => b"in",
-        Kind::Out => b"out",
-    }
-}
 
 impl Tally {
     fn count(&mut self, event: Event)
@@ -45,7 +34,7 @@ impl Tally {
         self.count(event);
         writer.event(
             event.cycle,
-            word(event.kind),
+            event.kind.word().as_bytes(),
             u32::from(event.ticket),
             u32::from(event.number),
             u32::from(event.node),

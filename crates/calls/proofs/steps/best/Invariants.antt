@@ -1,7 +1,7 @@
 use Rattle.std.proofs.Common.{◌≡◌}
 use Rattle.switch.specs.Switches.{at}
 use Rattle.network.specs.Computed.{due}
-use Rattle.calls.specs.Steps.{best_upto}
+use Rattle.calls.proofs.Stepping.{best_upto}
 use Rattle.calls.proofs.steps.best.Given as goal
 
 abbrev pub invariant-loop-k : goal.invariant-loop-k

@@ -1,8 +1,7 @@
 use Rattle.std.proofs.Common.{◌≡◌, ◌+◌, List, Option, length, get_or, None, sym, ◌∙◌, subst, arith}
 use Rattle.std.proofs.lemmas.List.{length-set}
 use Rattle.fabric.specs.declared.parts.Flit.{Flit}
-use Rattle.calls.specs.Steps.{SpreadUpto}
-use Rattle.calls.proofs.Stepping.{spread_more, spread_past}
+use Rattle.calls.proofs.Stepping.{SpreadUpto, spread_more, spread_past}
 use Rattle.calls.proofs.steps.spread.Goals.{then-is_some, else-is_some}
 use Rattle.calls.proofs.steps.spread.Goals as goal
 

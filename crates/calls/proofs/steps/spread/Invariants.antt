@@ -1,5 +1,5 @@
 use Rattle.std.proofs.Common.{◌≡◌, length}
-use Rattle.calls.specs.Steps.{SpreadUpto}
+use Rattle.calls.proofs.Stepping.{SpreadUpto}
 use Rattle.calls.proofs.steps.spread.Given as goal
 
 abbrev pub invariant-loop-k : goal.invariant-loop-k

@@ -11,7 +11,7 @@ use Rattle.runner.specs.Answering.{made_of, Ran}
 use Rattle.runner.specs.Tallies.{Tallied}
 use Rattle.runner.specs.Progress.{Left}
 use Rattle.runner.proofs.Beginning.{at_first, all_left, ran}
-use Rattle.runner.proofs.Fabrics.{same_fabric, then_same}
+use Rattle.calls.proofs.Fabrics.{same_fabric, then_same}
 use Rattle.runner.proofs.list.start.Goals as goal
 use Rattle.runner.proofs.list.start.Goals.{After-play-arg-1}
 
@@ -21,7 +21,7 @@ play-requires g c =
     let e = c.in_ok-set_up.ensures in
     let same = same_fabric g.L.Layout.plan g.S.Switch.turn (then_same c.new-network.ensures.parts e.parts) in
     let begins =
-    subst (λ (F : Fabric). Begins F c.settings-settings.result c.set_up.new.self.inner) (sym (same_fabric g.L.Layout.plan g.S.Switch.turn e.parts)) (e.begins refl) in
+    subst (λ (F : Fabric). Begins F c.settings-settings.result c.set_up.new.self.inner) (sym (same_fabric g.L.Layout.plan g.S.Switch.turn e.parts)) e.begins in
     let tallied : Tallied c.default.result [] = record { entered = c.default.ensures.0; off = c.default.ensures.1.0; waited = c.default.ensures.1.1; short = omega arith } in
     let all = c.in_ok-planned.ensures ∙ c.packets.ensures in
     let few = c.requires.0.packets in

@@ -9,8 +9,10 @@ use Rattle.uses.proofs.cycles.run_on.Given as goal
 
 abbrev pub invariant-loop : goal.invariant-loop
 invariant-loop g l =
-    SameParts l.initial.network l.network
-    × SameLender l.initial.line l.line
-    × ((run : List Call) (s : State) →
-    Follows (fabric_of g.L.Layout.plan g.S.Switch.turn l.initial.network) l.initial.network.inner run s →
-    RanOn (fabric_of g.L.Layout.plan g.S.Switch.turn l.initial.network) l.initial.network.inner l.network.inner l.counter run s (queue_of l.initial.line) (queue_of l.line))
+    let F = fabric_of g.L.Layout.plan g.S.Switch.turn l.initial.network in
+    record {
+      parts : SameParts l.initial.network l.network;
+      lender : SameLender l.initial.line l.line;
+      ran : (run : List Call) (s : State) → Follows F l.initial.network.inner run s →
+          RanOn F l.initial.network.inner l.network.inner l.counter run s (queue_of l.initial.line) (queue_of l.line);
+    }

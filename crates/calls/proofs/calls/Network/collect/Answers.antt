@@ -7,7 +7,7 @@ use Rattle.network.specs.Runs.{Outcome}
 use Rattle.network.specs.Runs.Call.{collect as collects}
 use Rattle.network.specs.Runs.Outcome.{collecting}
 use Rattle.calls.specs.Follow.{Promised}
-use Rattle.calls.proofs.Promising.{not_refused, promised, refusing}
+use Rattle.calls.proofs.Promising.{promised, refusing}
 use Rattle.calls.proofs.Collects.{no_node, not_complete, no_memory, grants}
 use Rattle.calls.proofs.calls.Network.collect.Goals.{then-receiver-nodes-via-then-receiver-nodes, then-receiver-nodes-via-else-receiver-nodes+then-sender-nodes, then-receiver-nodes-via-else-receiver-nodes+else-sender-nodes+then-own-self}
 use Rattle.calls.proofs.calls.Network.collect.Goals as goal
@@ -54,4 +54,4 @@ returns-clause-promised g c =
     promised law (g.met.S.Switch.lawful s.switch)
     (grants F s.inner c.args.receiver c.args.sender c.args.own c.args.memory.now (omega arith) (omega arith) c.if-own-self.false
     c.in_ok-packet.packet (sym c.arrived.ensures ∙ some) law (subst (λ (z : ℕ). z ≤ length c.args.memory.now) c.from-size.ensures c.if-memory-size.false) c.free.new.self c.free.ensures
-    (omega arith) c.from-size.result c.from-size.ensures c.write.new.memory c.write.ensures) not_refused
+    (omega arith) c.from-size.result c.from-size.ensures c.write.new.memory c.write.ensures) (λ e. absurd e)

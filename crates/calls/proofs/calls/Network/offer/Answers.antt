@@ -1,7 +1,7 @@
 use Rattle.std.proofs.Common.{◌≡◌, ◌+◌, ◌*◌, ◌<◌, ◌≤◌, ◌⊎◌, length, is_some, None, inl, inr, ⊎_elim, sym, ap, ◌∙◌, rules, arith}
 use Rattle.std.proofs.lemmas.List.{get_or_default}
 use Rattle.calls.specs.Networks.{fabric_of}
-use Rattle.calls.proofs.Promising.{not_refused, promised, refusing}
+use Rattle.calls.proofs.Promising.{promised, refusing}
 use Rattle.calls.proofs.Offers.{no_node, no_destination, no_words, not_free, own_ticket, grants}
 use Rattle.calls.proofs.calls.Network.offer.Goals.{then-node-nodes-via-then-node-nodes, then-node-nodes-via-else-node-nodes+then-own-self}
 use Rattle.calls.proofs.calls.Network.offer.Goals.{then-is_empty-via-then-is_empty, then-is_empty-via-else-is_empty+then-words-self}
@@ -57,4 +57,4 @@ returns-clause-promised g c =
     promised law (g.met.S.Switch.lawful s.switch)
     (grants F s.inner c.args.node c.args.own c.args.destination c.args.words.now (omega arith) (omega arith) (omega arith) c.if-destination-node.false
     (λ e. search rules) c.if-words-self.false law c.accept.new.self c.accept.ensures (omega arith) (omega arith)
-    (ap is_some (get_or_default s.inner.tickets (c.args.node * s.inner.settings.tickets + c.args.own) None _ (omega arith)) ∙ sym c.if-is_some.ensures)) not_refused
+    (ap is_some (get_or_default s.inner.tickets (c.args.node * s.inner.settings.tickets + c.args.own) None _ (omega arith)) ∙ sym c.if-is_some.ensures)) (λ e. absurd e)

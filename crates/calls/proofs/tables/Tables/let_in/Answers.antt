@@ -2,14 +2,14 @@ use Rattle.std.proofs.Common.{◌≡◌, [], Some, None, get_or, drop, sym, refl
 use Rattle.std.proofs.lemmas.List.{get_or-map, length-map}
 use Rattle.std.specs.Prelude.{slice_get}
 use Rattle.batch.specs.Items.{items}
-use Rattle.calls.specs.Records.{line_at}
-use Rattle.calls.proofs.Recording.{head_some, head_empty, let_go, one_line}
+use Rattle.calls.specs.Records.{waiting_at}
+use Rattle.calls.proofs.Recording.{head_some, head_empty, let_go, one_changed}
 use Rattle.calls.proofs.tables.Tables.let_in.Goals as goal
 
 pub returns-then-packet : goal.returns-then-packet
 returns-then-packet c =
     let i = c.args.self.now in
-    let xs = line_at i c.args.node in
+    let xs = waiting_at i c.args.node in
     let u = c.in_ok-ticket.ticket in
     let long = length-map i.waits items in
     let first : Some u ≡ slice_get xs 0 = sym c.in_ok-ticket.was ∙ c.first.ensures ∙ ap (λ ys. slice_get ys 0) (sym (get_or-map items i.waits c.args.node _ [] (omega arith))) in
@@ -20,13 +20,13 @@ returns-then-packet c =
       some = λ t ts r e is.
           let_go i _ c.args.node u c.from-t.result t c.send-flit.result c.in-Some.packet r c.send-flit.new.self c.from-t.ensures (head_some xs u first t ts e)
           there is (omega arith) c.send-flit.ensures refl (λ no_more. absurd (no_more c.if-packet.true))
-          (λ e. one_line i.waits c.args.node c.remove_first.new.self _ (drop 1) (omega arith) c.remove_first.ensures.held);
+          (λ e. one_changed i.waits c.args.node c.remove_first.new.self _ (drop 1) (omega arith) c.remove_first.ensures.held);
     }
 
 pub returns-else-packet : goal.returns-else-packet
 returns-else-packet c =
     let i = c.args.self.now in
-    let xs = line_at i c.args.node in
+    let xs = waiting_at i c.args.node in
     let u = c.in_ok-ticket.ticket in
     let long = length-map i.waits items in
     let first : Some u ≡ slice_get xs 0 = sym c.in_ok-ticket.was ∙ c.first.ensures ∙ ap (λ ys. slice_get ys 0) (sym (get_or-map items i.waits c.args.node _ [] (omega arith))) in

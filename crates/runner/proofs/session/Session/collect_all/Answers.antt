@@ -1,7 +1,7 @@
 use Rattle.std.proofs.Common.{◌≡◌, ℕ, ◌*◌, ◌<◌, sym, refl, ◌∙◌, subst, subst₂, arith}
 use Rattle.network.specs.Cycle.{Fabric}
 use Rattle.calls.specs.Networks.{fabric_of}
-use Rattle.runner.proofs.Fabrics.{same_fabric, then_same}
+use Rattle.calls.proofs.Fabrics.{same_fabric, then_same}
 use Rattle.runner.specs.Progress.{Going, Tried, CollectedFrom}
 use Rattle.runner.proofs.Turning.{collected_none, collected_more}
 use Rattle.runner.proofs.session.Session.collect_all.Goals as goal

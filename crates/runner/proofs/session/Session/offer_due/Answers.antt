@@ -3,7 +3,7 @@ use Rattle.network.specs.Cycle.{Fabric}
 use Rattle.calls.specs.Networks.{fabric_of}
 use Rattle.text.specs.declared.parts.Packet.{Packet}
 use Rattle.runner.specs.Progress.{Going, Offered, coming, DueFrom, Left}
-use Rattle.runner.proofs.Fabrics.{same_fabric, then_same}
+use Rattle.calls.proofs.Fabrics.{same_fabric, then_same}
 use Rattle.runner.proofs.Turning.{left_due, due_none, due_more}
 use Rattle.runner.proofs.session.Session.offer_due.Goals as goal
 

@@ -2,7 +2,7 @@ use Rattle.std.proofs.Common.{◌≡◌, ℕ, Option, sym, refl, ◌∙◌, subs
 use Rattle.fabric.specs.Refusals.{shown}
 use Rattle.network.specs.Cycle.{Fabric}
 use Rattle.calls.specs.Networks.{fabric_of}
-use Rattle.runner.proofs.Fabrics.{same_fabric, then_same}
+use Rattle.calls.proofs.Fabrics.{same_fabric, then_same}
 use Rattle.writer.specs.Listings.{LineOut, end_line}
 use Rattle.runner.specs.Listing.{Turns}
 use Rattle.runner.specs.Progress.{coming, Ready, Turned}

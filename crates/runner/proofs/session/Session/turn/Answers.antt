@@ -2,7 +2,7 @@ use Rattle.std.proofs.Common.{◌*◌, sym, subst, arith}
 use Rattle.network.specs.Cycle.{Fabric}
 use Rattle.calls.specs.Networks.{fabric_of}
 use Rattle.runner.specs.Progress.{Early, Going, Cycled, Collected, coming}
-use Rattle.runner.proofs.Fabrics.{same_fabric, then_same}
+use Rattle.calls.proofs.Fabrics.{same_fabric, then_same}
 use Rattle.runner.proofs.Turning.{turned}
 use Rattle.runner.proofs.session.Session.turn.Goals as goal
 
