@@ -30,6 +30,13 @@ as_plans plan {k} {cs} {x} e = go
     go (unreached f g n l h) = same (unreached f g n l h)
     go (cabled f g h m) = cabled f g h m
 
+-- what is refused leaves one node without cables as it is
+pub refused_alone : {A : Type 0} {plan : A → Plan} {k : ℕ} {cs : List Cable} {x y : A} {n : ℕ} {named : List ℕ} → Cabling plan k cs x y (refused n named) →
+    Cabling (λ q. q) k cs lone lone (refused n named)
+refused_alone (unfair h) = unfair h
+refused_alone (bad f i l g h) = bad f i l g h
+refused_alone (unreached f g n l h) = unreached f g n l h
+
 module _ (k : ℕ) (cs : List Cable) (f : Fair k) where
   -- the number of the slot that a cable begins at
   abbrev head : ℕ → ℕ

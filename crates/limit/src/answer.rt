@@ -1,9 +1,9 @@
 // What a sheet is answered.
-ghost use Rattle.std.specs.Prelude.{◌≡◌, IfOk};
+ghost use Rattle.std.specs.Prelude.{◌≡◌, IfOk, IfErr};
 ghost use Rattle.laying.specs.Layings.{settings_of, settled};
 ghost use Rattle.laying.specs.Reports.{reported};
 ghost use Rattle.bounds.specs.Lateness.{limits_of};
-ghost use Rattle.limit.specs.Answers.{AlwaysInTime, Answered, OneAnswer, meant};
+ghost use Rattle.limit.specs.Answers.{AlwaysInTime, Answered, Named, OneAnswer, meant};
 
 use bounds::limits::Limits;
 use cabled::cabled::Cabled;
@@ -31,6 +31,7 @@ fn bound<L: Layout>(layout: &L, run: Run) -> Result<Limits, Fault>
 
 pub fn reply(bytes: &[u8]) -> Result<Answer, Fault>
     ensures answered { Answered bytes.now (reported meant result) }
+    ensures named { IfErr result (Named bytes.now) }
     ensures only { OneAnswer }
 {
     let sheet = read(bytes)?;
