@@ -70,7 +70,7 @@ module _ (bs : List ℕ) (s : Said) (read : SheetText bs s) where
     all l e limits off = inl (s, read, (answers p, (answers p, laid, e), ap (λ m. answers (p, m)) limits), off)
 
 -- sheet, fault and report are one each, and so is the answer
-pub one_answer : OneAnswer
+pub one_answer : (bs : List ℕ) → OneAnswer bs
 one_answer bs r r' (inl (s, read, (v, j, e), w)) (inl (t, read', (u, k, f), x)) =
     let same = (one_sheet bs).sheet s t read read' in
     let one = one_judgement t.shape t.cables t.run v u (subst (λ (y : Said). Judged y.shape y.cables y.run v) same j) k in

@@ -32,7 +32,7 @@ fn bound<L: Layout>(layout: &L, run: Run) -> Result<Limits, Fault>
 pub fn reply(bytes: &[u8]) -> Result<Answer, Fault>
     ensures answered { Answered bytes.now (reported meant result) }
     ensures named { IfErr result (Named bytes.now) }
-    ensures only { OneAnswer }
+    ensures only { OneAnswer bytes.now }
 {
     let sheet = read(bytes)?;
     match sheet.shape {

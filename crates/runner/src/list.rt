@@ -2,8 +2,7 @@
 ghost use Rattle.fabric.specs.Refusals.{shown};
 ghost use Rattle.runsheet.specs.Said.{said};
 ghost use Rattle.writer.specs.Listings.{SameLender};
-ghost use Rattle.runner.specs.Answering.{made_of, network_of, WrittenOut, Blank, Runnable, Ran, Ended, Carried};
-ghost use Rattle.runner.specs.Only.{OneListing};
+ghost use Rattle.runner.specs.Answering.{made_of, network_of, OneListing, WrittenOut, Blank, Runnable, Ran, Ended, Carried};
 
 use super::planned::Planned;
 use super::session::{Session, TICKETS};
@@ -97,7 +96,7 @@ fn carry_out(bytes: &[u8], writer: &mut Writer) -> Result<(), Fault>
 // Writes the listing of any bytes at the start of the memory, and answers its length.
 pub fn list(sheet: &[u8], memory: &mut [u8]) -> Result<usize, Refusal>
     ensures out { WrittenOut sheet.now memory.old (shown result) memory.new }
-    ensures only { OneListing }
+    ensures only { OneListing sheet.now }
 {
     if memory.len() < MEMORY {
         return Err(Refusal::Memory);

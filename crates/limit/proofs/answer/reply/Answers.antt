@@ -61,22 +61,22 @@ returns-in_err-limits-in-Cabled-clause-named c =
 
 -- any bytes are answered one way, whatever they are answered
 pub returns-in_err-sheet-clause-only : goal.returns-in_err-sheet-clause-only
-returns-in_err-sheet-clause-only c = one_answer
+returns-in_err-sheet-clause-only c = one_answer c.args.bytes.now
 
 pub returns-in_err-mesh-in-Mesh-clause-only : goal.returns-in_err-mesh-in-Mesh-clause-only
-returns-in_err-mesh-in-Mesh-clause-only c = one_answer
+returns-in_err-mesh-in-Mesh-clause-only c = one_answer c.args.bytes.now
 
 pub returns-in_err-limits-in-Mesh-clause-only : goal.returns-in_err-limits-in-Mesh-clause-only
-returns-in_err-limits-in-Mesh-clause-only c = one_answer
+returns-in_err-limits-in-Mesh-clause-only c = one_answer c.args.bytes.now
 
 pub returns-in_err-layout-in-Cabled-clause-only : goal.returns-in_err-layout-in-Cabled-clause-only
-returns-in_err-layout-in-Cabled-clause-only c = one_answer
+returns-in_err-layout-in-Cabled-clause-only c = one_answer c.args.bytes.now
 
 pub returns-in_err-limits-in-Cabled-clause-only : goal.returns-in_err-limits-in-Cabled-clause-only
-returns-in_err-limits-in-Cabled-clause-only c = one_answer
+returns-in_err-limits-in-Cabled-clause-only c = one_answer c.args.bytes.now
 
 pub returns-in_ok-limits-in-Mesh-clause-only : goal.returns-in_ok-limits-in-Mesh-clause-only
-returns-in_ok-limits-in-Mesh-clause-only c = one_answer
+returns-in_ok-limits-in-Mesh-clause-only c = one_answer c.args.bytes.now
 
 pub returns-in_ok-limits-in-Cabled-clause-only : goal.returns-in_ok-limits-in-Cabled-clause-only
-returns-in_ok-limits-in-Cabled-clause-only c = one_answer
+returns-in_ok-limits-in-Cabled-clause-only c = one_answer c.args.bytes.now

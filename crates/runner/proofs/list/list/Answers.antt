@@ -10,7 +10,7 @@ use Rattle.runner.proofs.list.list.Goals as goal
 use Rattle.runner.proofs.list.list.Goals.{in-Err+in_ok-fault, in_default}
 
 pub returns-then-memory-lt-MEMORY : goal.returns-then-memory-lt-MEMORY
-returns-then-memory-lt-MEMORY c = record { out = short c.if-memory-lt-MEMORY.true; only = one_listing }
+returns-then-memory-lt-MEMORY c = record { out = short c.if-memory-lt-MEMORY.true; only = one_listing c.args.sheet.now }
 
 pub returns-in_err-fault : goal.returns-in_err-fault
 returns-in_err-fault c =
@@ -24,7 +24,7 @@ moved : (w : Writer) {text memory : List ℕ} {n : ℕ} {v u : Writer} → v ≡
 moved w {text} {memory} {n} e a b = subst (λ (x : Writer). SameLender w x × WrittenOut text memory (granted n) x.memory.now) (sym e) (a, b)
 
 pub returns-clause-only : goal.returns-clause-only
-returns-clause-only c = one_listing
+returns-clause-only c = one_listing c.args.sheet.now
 
 pub returns-clause-out : goal.returns-clause-out
 returns-clause-out c =
