@@ -70,11 +70,14 @@ module _ (bs : List ℕ) (s : Said) (read : SheetText bs s) where
     all l e limits off = inl (s, read, (answers p, (answers p, laid, e), ap (λ m. answers (p, m)) limits), off)
 
 -- sheet, fault and report are one each, and so is the answer
-pub one_answer : (bs : List ℕ) → OneAnswer bs
-one_answer bs r r' (inl (s, read, (v, j, e), w)) (inl (t, read', (u, k, f), x)) =
+same_answer : (bs : List ℕ) (r r' : Report (Plan × Limits)) → Answered bs r → Answered bs r' → r ≡ r'
+same_answer bs r r' (inl (s, read, (v, j, e), w)) (inl (t, read', (u, k, f), x)) =
     let same = (one_sheet bs).sheet s t read read' in
     let one = one_judgement t.shape t.cables t.run v u (subst (λ (y : Said). Judged y.shape y.cables y.run v) same j) k in
     e ∙ ap₂ (λ (y : Said) (z : Report Plan). then z (λ p. answers (p, limits_of p (settings_of y.run)))) same one ∙ sym f
-one_answer bs r r' (inl (s, read, a, w)) (inr (f, h', e)) = absurd ((one_sheet bs).none s f read h')
-one_answer bs r r' (inr (f, h, e)) (inl (s, read, a, w)) = absurd ((one_sheet bs).none s f read h)
-one_answer bs r r' (inr (f, h, e)) (inr (g, h', e')) = e ∙ ap faults ((one_sheet bs).fault f g h h') ∙ sym e'
+same_answer bs r r' (inl (s, read, a, w)) (inr (f, h', e)) = absurd ((one_sheet bs).none s f read h')
+same_answer bs r r' (inr (f, h, e)) (inl (s, read, a, w)) = absurd ((one_sheet bs).none s f read h)
+same_answer bs r r' (inr (f, h, e)) (inr (g, h', e')) = e ∙ ap faults ((one_sheet bs).fault f g h h') ∙ sym e'
+
+pub one_answer : (bs : List ℕ) → OneAnswer bs
+one_answer bs = record { answer = same_answer bs }

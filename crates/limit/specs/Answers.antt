@@ -46,8 +46,8 @@ abbrev pub Named : List ℕ → Fault → Type 0
 Named bs f = f.layer ≡ Layout → (s : Said) → SheetText bs s → RefusedBy s.shape s.cables f.refusal
 
 -- the bytes are answered one way
-abbrev pub OneAnswer : List ℕ → Type 0
-OneAnswer bs = (r r' : Report (Plan × Limits)) → Answered bs r → Answered bs r' → r ≡ r'
+pub record OneAnswer (bs : List ℕ) : Type 0 where
+  pub answer : (r r' : Report (Plan × Limits)) → Answered bs r → Answered bs r' → r ≡ r'
 
 -- what an answer of the code means
 abbrev pub meant : Answer → Plan × Limits

@@ -29,6 +29,7 @@ fn bound<L: Layout>(layout: &L, run: Run) -> Result<Limits, Fault>
     Limits::of(layout, settings(run)).map_err(at_run_line)
 }
 
+#[tactic(auto, using(crate::proofs::Answering::one_answer))]
 pub fn reply(bytes: &[u8]) -> Result<Answer, Fault>
     ensures answered { Answered bytes.now (reported meant result) }
     ensures named { IfErr result (Named bytes.now) }

@@ -47,8 +47,8 @@ Listing text bs =
     ⊎ ((f : Fault) × Refused text f × (bs ≡ written (fault_fields (told f))))
 
 -- the bytes have one listing, whatever lines of events the cycles of their run are called with
-abbrev pub OneListing : List ℕ → Type 0
-OneListing text = (bs bs' : List ℕ) → Listing text bs → Listing text bs' → bs ≡ bs'
+pub record OneListing (text : List ℕ) : Type 0 where
+  pub listing : (bs bs' : List ℕ) → Listing text bs → Listing text bs' → bs ≡ bs'
 
 -- the listing is written at the start of a memory of 65,536 bytes or more, which suffice for each, and the rest of the memory stays; none is empty;
 -- a shorter memory is refused by 9, and stays

@@ -94,6 +94,7 @@ fn carry_out(bytes: &[u8], writer: &mut Writer) -> Result<(), Fault>
 }
 
 // Writes the listing of any bytes at the start of the memory, and answers its length.
+#[tactic(auto, using(crate::proofs::Only::one_listing))]
 pub fn list(sheet: &[u8], memory: &mut [u8]) -> Result<usize, Refusal>
     ensures out { WrittenOut sheet.now memory.old (shown result) memory.new }
     ensures only { OneListing sheet.now }

@@ -3,7 +3,7 @@ use Rattle.std.proofs.lemmas.Result.{err_from_is_err_and}
 use Rattle.text.proofs.Exits.{err_at}
 use Rattle.limit.specs.Answers.{Answered, Named}
 use Rattle.laying.proofs.Laying.{as_read, reported_err}
-use Rattle.limit.proofs.Answering.{none_named, named_as, not_named, no_layout, no_limits, all, one_answer}
+use Rattle.limit.proofs.Answering.{none_named, named_as, not_named, no_layout, no_limits, all}
 use Rattle.limit.proofs.answer.reply.Goals as goal
 
 pub returns-in_err-sheet-clause-answered : goal.returns-in_err-sheet-clause-answered
@@ -58,25 +58,3 @@ returns-in_err-layout-in-Cabled-clause-named c =
 pub returns-in_err-limits-in-Cabled-clause-named : goal.returns-in_err-limits-in-Cabled-clause-named
 returns-in_err-limits-in-Cabled-clause-named c =
     err_at _ (Named c.args.bytes.now) _ _ (err_from_is_err_and _ c.from_residual-in_err-limits-in-Cabled.ensures.1) (not_named _ _ c.in_ok-sheet.ensures.read _ _ c.in_err-limits-in-Cabled.ensures.judged)
-
--- any bytes are answered one way, whatever they are answered
-pub returns-in_err-sheet-clause-only : goal.returns-in_err-sheet-clause-only
-returns-in_err-sheet-clause-only c = one_answer c.args.bytes.now
-
-pub returns-in_err-mesh-in-Mesh-clause-only : goal.returns-in_err-mesh-in-Mesh-clause-only
-returns-in_err-mesh-in-Mesh-clause-only c = one_answer c.args.bytes.now
-
-pub returns-in_err-limits-in-Mesh-clause-only : goal.returns-in_err-limits-in-Mesh-clause-only
-returns-in_err-limits-in-Mesh-clause-only c = one_answer c.args.bytes.now
-
-pub returns-in_err-layout-in-Cabled-clause-only : goal.returns-in_err-layout-in-Cabled-clause-only
-returns-in_err-layout-in-Cabled-clause-only c = one_answer c.args.bytes.now
-
-pub returns-in_err-limits-in-Cabled-clause-only : goal.returns-in_err-limits-in-Cabled-clause-only
-returns-in_err-limits-in-Cabled-clause-only c = one_answer c.args.bytes.now
-
-pub returns-in_ok-limits-in-Mesh-clause-only : goal.returns-in_ok-limits-in-Mesh-clause-only
-returns-in_ok-limits-in-Mesh-clause-only c = one_answer c.args.bytes.now
-
-pub returns-in_ok-limits-in-Cabled-clause-only : goal.returns-in_ok-limits-in-Cabled-clause-only
-returns-in_ok-limits-in-Cabled-clause-only c = one_answer c.args.bytes.now
