@@ -18,7 +18,7 @@ use Rattle.network.specs.Runs.Outcome.{offering, cycling, collecting}
 use Rattle.calls.specs.declared.tables.Tables.{Tables}
 use Rattle.calls.specs.Follow.{Promised}
 use Rattle.text.specs.declared.parts.Packet.{Packet}
-use Rattle.text.specs.Texts.{Field, Fits, number, written}
+use Rattle.text.specs.Texts.{Field, Fits, number, written, text}
 use Rattle.text.specs.Lines.{payload}
 use Rattle.writer.specs.declared.writer.Writer.{Writer}
 use Rattle.writer.specs.Listings.{beyond, LineOut, no_line, done_line, end_line}
@@ -30,8 +30,9 @@ use Rattle.runner.specs.Listing.{line_of, ins, outs, under_way, mean_of, offer_o
 use Rattle.runner.specs.Listing.Offers.{accepted, declined}
 use Rattle.runner.specs.Listing.Collects.{brought, left}
 use Rattle.runner.specs.Tallies.{Tellable, Told}
-use Rattle.runner.specs.Progress.{Page, At, Stands, Sendable}
-use Rattle.runner.proofs.Pages.{page_line}
+use Rattle.runner.specs.Answering.{Holds}
+use Rattle.runner.specs.Progress.{At, Stands, Sendable}
+use Rattle.runner.proofs.Pages.{line_more}
 use Rattle.runner.proofs.Events.{sums_append}
 use Rattle.runner.proofs.Steps.{own_below, offered_at, declined_at, lines_few, room_left, tally_few, most_tickets, Cycled, cycled_at, not_refused, Numbered, numbered, busy, not_busy, Brought, brought_at, left_at}
 use Rattle.runner.proofs.Telling.{ok_shown}
@@ -187,7 +188,7 @@ module _ (F : Fabric) (P : Settings) (law : Lawful F.plan) {M : List ℕ} {A B :
 
   -- the last line
   pub ends : {v : Writer} (r : Result (Unit {0}) Refusal) → LineOut w (end_line x.tally.entered x.tally.off (mean_of x.tally.waited x.tally.off)) v (shown r) →
-      (r ≡ Ok tt) × Page M v (ls ++ end_line (ins es) (outs es) (mean_of (under_way es) (outs es)) ∷ []) 65536
+      (r ≡ Ok tt) × Holds M v (text (ls ++ end_line (ins es) (outs es) (mean_of (under_way es) (outs es)) ∷ [])) 65536
   ends {v} r out =
       let t = x.tally in
       let k = st.at.tallied in
@@ -198,7 +199,7 @@ module _ (F : Fabric) (P : Settings) (law : Lawful F.plan) {M : List ℕ} {A B :
       let left = room_left F P law st.at in
       let z = with_room (let n : length (written line) ≤ length (beyond w) = omega arith in n) out in (
         ok_shown r z.0,
-        subst (λ (l : List Field). Page M v (ls ++ l ∷ []) 65536)
+        subst (λ (l : List Field). Holds M v (text (ls ++ l ∷ [])) 65536)
             (ap₂ (λ (a b : ℕ). end_line a b (mean_of t.waited b)) k.entered k.off ∙ ap (λ (c : ℕ). end_line (ins es) (outs es) (mean_of c (outs es))) k.waited)
-            (page_line line st.at.spent.page (omega (arith, lines_few F P law st.at, short)) z.1),
+            (line_more ls line st.at.spent.holds (omega (arith, lines_few F P law st.at, short)) z.1),
       )

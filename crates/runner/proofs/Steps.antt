@@ -38,7 +38,7 @@ use Rattle.runner.specs.Tallies.{Small, Tallied}
 use Rattle.runner.specs.Progress.{Aimed, Narrow, most_bytes, Calls, At}
 use Rattle.network.proofs.Counting.{Few, few}
 use Rattle.runner.proofs.Events.{sums_append, ins_told, outs_told, Alike, alike, moves, small_told}
-use Rattle.runner.proofs.Pages.{text_short, page_room, page_more, page_line}
+use Rattle.runner.proofs.Pages.{text_short, room_beyond, lines_more, line_more}
 
 -- a call that kept its promise
 pub record Moved (F : Fabric) (P : Settings) (j : Tables) (s : State) (k : Call) (o : Outcome) : Type 0 where
@@ -125,7 +125,7 @@ module _ (F : Fabric) (P : Settings) (law : Lawful F.plan) {M : List ℕ} {i : T
   lines_few = most_few a.spent.declined happens (omega (arith, a.spent.packets, a.spent.few))
 
   pub room_left : 9216 ≤ length (beyond w)
-  room_left = omega (arith, page_room a.spent.page, lines_few)
+  room_left = omega (arith, room_beyond a.spent.long a.spent.holds, lines_few)
 
   -- the counts stay small
   pub record TallyFew : Type 0 where
@@ -189,7 +189,7 @@ module _ (F : Fabric) (P : Settings) (law : Lawful F.plan) {M : List ℕ} {i : T
           events = a.events;
           narrow = (short, narrow, a.narrow);
           tallied = a.tallied;
-          spent = record { declined = a.spent.declined; packets = let x = a.spent.packets in omega arith; few = omega arith; page = a.spent.page };
+          spent = record { declined = a.spent.declined; packets = let x = a.spent.packets in omega arith; few = omega arith; long = a.spent.long; holds = a.spent.holds };
         },
       )
 
@@ -217,7 +217,8 @@ module _ (F : Fabric) (P : Settings) (law : Lawful F.plan) {M : List ℕ} {i : T
             declined = a.spent.declined + 1;
             packets = let z = a.spent.packets in omega arith;
             few = omega arith;
-            page = page_line line a.spent.page (omega arith) app;
+            long = a.spent.long;
+            holds = line_more ls line a.spent.holds (omega arith) app;
           };
         },
       )
@@ -281,7 +282,7 @@ module _ (F : Fabric) (P : Settings) (law : Lawful F.plan) {M : List ℕ} {i : T
               events = d.told;
               narrow = d.alike.narrow a.narrow;
               tallied = tally;
-              spent = record { declined = a.spent.declined; packets = packets; few = a.spent.few; page = page_more lines a.spent.page longer app };
+              spent = record { declined = a.spent.declined; packets = packets; few = a.spent.few; long = a.spent.long; holds = lines_more ls lines a.spent.holds longer app };
             };
       }
     where
@@ -322,7 +323,7 @@ module _ (F : Fabric) (P : Settings) (law : Lawful F.plan) {M : List ℕ} {i : T
       longer = omega (arith, e1, e2, e3, e4, short, d.alike.collections)
 
       room : length (text lines) ≤ length (beyond w)
-      room = omega (arith, page_room a.spent.page, longer, most_few a.spent.declined after (omega (arith, packets, a.spent.few)))
+      room = omega (arith, room_beyond a.spent.long a.spent.holds, longer, most_few a.spent.declined after (omega (arith, packets, a.spent.few)))
 
       few_packets : offers y.state.log ≤ 256
       few_packets = omega (arith, packets, a.spent.few)
@@ -408,7 +409,7 @@ module _ (F : Fabric) (P : Settings) (law : Lawful F.plan) {M : List ℕ} {i : T
               events = a.events;
               narrow = a.narrow;
               tallied = a.tallied;
-              spent = record { declined = a.spent.declined; packets = a.spent.packets; few = a.spent.few; page = page_line line a.spent.page (omega arith) app };
+              spent = record { declined = a.spent.declined; packets = a.spent.packets; few = a.spent.few; long = a.spent.long; holds = line_more ls line a.spent.holds (omega arith) app };
             };
       }
     where

@@ -45,4 +45,4 @@ returns-clause-ran g c =
     subst (λ (a : g.row.L.Denot). granted tt ≡ set_up_verdict (g.L.Layout.plan a) c.settings-settings.result) (sym e.parts.0) e.exact in
     let m = c.play.ensures.played in
     subst (λ (r : Result (Unit {0}) Refusal). Ran (made_of (g.L.Layout.plan c.args.layout) (g.S.Switch.turn c.args.switch)) s c.args.writer.now c.play.new.writer (shown r)) (sym m.0)
-    (ran s same c.settings-settings.ensures (c.in_ok-planned.ensures ∙ c.packets.ensures) verdict (m.1 _ _ stands))
+    (ran s c.args.writer.now same c.settings-settings.ensures (c.in_ok-planned.ensures ∙ c.packets.ensures) verdict (m.1 _ _ stands))

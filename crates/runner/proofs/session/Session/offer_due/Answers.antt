@@ -11,7 +11,7 @@ pub loop-packet-init : goal.loop-packet-init
 loop-packet-init g c =
     let F = fabric_of g.L.Layout.plan g.S.Switch.turn c.args.self.now.network in (
       λ P M s ls es o st few. due_none F P c.args.cycle (coming c.args.planned.now) st,
-      record { rising = c.requires.rising; sendable = c.requires.sendable },
+      c.requires.left,
       (refl, refl),
       refl,
       refl,

@@ -35,8 +35,7 @@ turn-requires g c =
             going = record { settings = x.settings; memory = x.memory; state = k.state; lines = k.lines; events = k.events; packets = k.packets; stands = k.stands };
             now = k.now;
             room = k.room;
-            rising = i.1.rising;
-            sendable = i.1.sendable;
+            left = i.1;
           });
       early = let a = c.loop-cycle-test.true in let b = x.short in omega arith;
     }
@@ -81,7 +80,6 @@ returns-clause-played g c =
       (ends F x.settings law k.stands c.end.result out).0,
       λ P M st.
           let h = i.0 P M st in
-          let w = (ends F P law h.stands c.end.result out).1 in
           record {
             out = _;
             lists = record {
@@ -92,8 +90,6 @@ returns-clause-played g c =
               turns = subst (λ (m : ℕ). Turns F P (coming c.args.planned.now) m (coming l.planned) h.state h.lines h.events) last h.turns;
               bytes = refl;
             };
-            written = w.written;
-            rest = w.rest;
-            short = w.bytes;
+            holds = (ends F P law h.stands c.end.result out).1;
           },
     )
