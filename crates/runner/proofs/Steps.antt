@@ -20,14 +20,15 @@ use Rattle.network.specs.Runs.Serves.{offer_granted, offer_refused, cycle_grante
 use Rattle.network.specs.Runs.Leads.{one_more}
 use Rattle.network.specs.Promises.{puts, Kept}
 use Rattle.network.proofs.Invariant.{Inv, Opened}
-use Rattle.network.proofs.Running.{peel, invariant}
-use Rattle.network.proofs.Solving.{led_one, all_told}
+use Rattle.network.proofs.Running.{peel}
+use Rattle.network.proofs.Solving.{all_told}
 use Rattle.network.proofs.Seen.{seen}
 use Rattle.calls.specs.declared.tables.Tables.{Tables}
 use Rattle.calls.specs.Fits.{Fits}
 use Rattle.calls.specs.Follow.{Promised}
 use Rattle.calls.proofs.Setting.{fits, ticket_below}
 use Rattle.calls.proofs.Offers.{own_ticket}
+use Rattle.calls.proofs.Showing.{invariant}
 use Rattle.text.specs.Texts.{Field, written, text}
 use Rattle.writer.specs.declared.writer.Writer.{Writer}
 use Rattle.writer.specs.Listings.{beyond, Appends}
@@ -113,7 +114,7 @@ module _ (F : Fabric) (P : Settings) (law : Lawful F.plan) {M : List ℕ} {i : T
   led = subst (λ (Q : Settings). Leads F Q a.calls.run s) a.calls.settings a.calls.follows.leads
 
   pub kept_inv : Inv F P s 0
-  kept_inv = subst (λ (x : State). Inv F P x 0) (sym (led_one F P law led)) (invariant F P law a.calls.run)
+  kept_inv = invariant F P law s (a.calls.run, led)
 
   pub most_tickets : all_tickets F.plan P ≤ 512
   most_tickets = ticket_below F law P sizes.few
