@@ -1,5 +1,5 @@
 -- What the verdicts on a sheet's lines make of a report.
-use Rattle.std.proofs.Common.{◌≡◌, ℕ, ◌<◌, ◌≤◌, List, get_or, Err, Result, sym, refl, subst, inl, arith}
+use Rattle.std.proofs.Common.{◌≡◌, ℕ, ◌<◌, ◌≤◌, List, get_or, Err, Result, sym, refl, subst, subst₂, inl, arith}
 use Rattle.fabric.specs.declared.parts.Cable.{Cable}
 use Rattle.fabric.specs.Layouts.{Plan}
 use Rattle.fabric.specs.Verdicts.{Verdict}
@@ -73,7 +73,7 @@ named_below (cabled f g h m) = tt
 
 -- the layout's lines of a sheet, by what was read of them
 pub as_read : (s : Shape) {t : Shape} (cs : List Cable) {ds : List Cable} (r : Report Plan) → s ≡ t → ds ≡ cs → Laid t ds r → Laid s cs r
-as_read s {t} cs r e d h = subst (λ (u : Shape). Laid u cs r) (sym e) (subst (λ (es : List Cable). Laid t es r) d h)
+as_read s cs r e d h = subst₂ (λ (u : Shape) (es : List Cable). Laid u es r) (sym e) d h
 
 -- what the exit of a `?` reports
 pub reported_err : {A B : Type 0} (seen : A → B) (P : Report B → Type 0) (f : Fault) (r : Result A Fault) → (y : Fault) × (r ≡ Err y) × (y ≡ f) →
