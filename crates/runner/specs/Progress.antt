@@ -25,7 +25,7 @@ use Rattle.runner.specs.declared.tally.Tally.{Tally}
 use Rattle.runner.specs.declared.session.Session.{Session}
 use Rattle.runner.specs.declared.planned.Planned.{Planned}
 use Rattle.network.specs.Counts.{offers, entries, collections}
-use Rattle.runner.specs.Listing.{Offers, Collects, Turn, Turns, Lists, line_of}
+use Rattle.runner.specs.Listing.{Offers, Collects, Turn, Lists, line_of}
 use Rattle.runner.specs.Tallies.{Tallied}
 use Rattle.runner.specs.Answering.{Holds}
 
@@ -210,17 +210,6 @@ pub record Begun {A B : Type 0} (F : Fabric) (cycles : ℕ) (ps : List Packet) (
   pub few : length ps ≤ 256
   pub left : Left 0 ps
   pub short : cycles ≤ 65535
-
--- some cycles of the run are carried out
-pub record Through {A B : Type 0} (F : Fabric) (P : Settings) (M : List ℕ) (ps : List Packet) (c : ℕ) (later : List Packet) (x : Session A B) (w : Writer) : Type 0 where
-  pub state : State
-  pub lines : List (List Field)
-  pub events : List Event
-  pub packets : ℕ
-  pub turns : Turns F P ps c later state lines events
-  pub now : state.cycles ≡ c
-  pub room : packets + length later ≤ 256
-  pub stands : Stands F P M x w state lines events packets
 
 -- the whole run is carried out, and its listing is written
 pub record PlayedFrom (F : Fabric) (P : Settings) (M : List ℕ) (cycles : ℕ) (ps : List Packet) (v : Writer) : Type 0 where

@@ -3,7 +3,8 @@ use Rattle.bounds.specs.declared.settings.Settings.{Settings}
 use Rattle.calls.specs.Networks.{fabric_of, SameParts}
 use Rattle.network.specs.Runs.{fresh}
 use Rattle.writer.specs.Listings.{SameLender}
-use Rattle.runner.specs.Progress.{Stands, coming, Left, Through, SamePlaces}
+use Rattle.runner.specs.Progress.{Stands, coming, Left, SamePlaces}
+use Rattle.runner.proofs.Turning.{Through}
 use Rattle.runner.proofs.session.Session.play.Given as goal
 
 abbrev pub invariant-loop-cycle : goal.invariant-loop-cycle
