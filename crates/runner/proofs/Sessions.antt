@@ -34,7 +34,7 @@ use Rattle.runner.specs.Answering.{Holds}
 use Rattle.runner.specs.Progress.{At, Stands, Sendable}
 use Rattle.runner.proofs.Pages.{line_more}
 use Rattle.runner.proofs.Events.{sums_append}
-use Rattle.runner.proofs.Steps.{own_below, offered_at, declined_at, lines_few, room_left, tally_few, most_tickets, Cycled, cycled_at, not_refused, Numbered, numbered, busy, not_busy, Brought, brought_at, left_at}
+use Rattle.runner.proofs.Steps.{own_below, offered_at, declined_at, lines_few, room_left, tally_few, most_tickets, CarriedOut, carried_out_at, not_refused, Numbered, numbered, busy, not_busy, Brought, brought_at, left_at}
 use Rattle.runner.proofs.Telling.{ok_shown}
 
 all_fit : (ws : List ℕ) → AllByRecursion Fits (map number ws) → AllByRecursion (λ v. v < 2 ^ 32) ws
@@ -97,11 +97,11 @@ module _ (F : Fabric) (P : Settings) (law : Lawful F.plan) {M : List ℕ} {A B :
     pub not_declined : {k : ℕ} {vs : List ℕ} → Promised F x.network.inner j (cycle q) (cycling (refused k vs) q') → ⊥
     not_declined p = not_refused F P law st.at early (subst (λ (z : Queue Event). 128 ≤ free_places z) (sym e) (omega arith)) p
 
-    pub carried_out : {k : ℕ} → Promised F x.network.inner j (cycle q) (cycling (granted k) q') → Cycled F P law st.at j q q' k
+    pub carried_out : {k : ℕ} → Promised F x.network.inner j (cycle q) (cycling (granted k) q') → CarriedOut F P law st.at j q q' k
     carried_out p =
-        cycled_at F P law st.at early (subst (λ (z : Queue Event). Sound z) (sym e) (omega arith, λ h. h)) (ap contents e) p
+        carried_out_at F P law st.at early (subst (λ (z : Queue Event). Sound z) (sym e) (omega arith, λ h. h)) (ap contents e) p
 
-    module _ {k : ℕ} (y : Cycled F P law st.at j q q' k) where
+    module _ {k : ℕ} (y : CarriedOut F P law st.at j q q' k) where
       pub tellable : Tellable x.tally w (contents q')
       tellable =
           subst (λ (es' : List Event). Tellable x.tally w es') (sym y.held)

@@ -252,7 +252,7 @@ module _ (F : Fabric) (P : Settings) (law : Lawful F.plan) {M : List ℕ} {i : T
       }
 
   -- what a cycle that was granted brings
-  pub record Cycled (j : Tables) (q q' : Queue Event) (k : ℕ) : Type 0 where
+  pub record CarriedOut (j : Tables) (q q' : Queue Event) (k : ℕ) : Type 0 where
     pub state : State
     pub serves : Serves F P s (cycle q) (cycling (granted k) q') state
     pub counted : state.cycles ≡ s.cycles + 1
@@ -264,8 +264,8 @@ module _ (F : Fabric) (P : Settings) (law : Lawful F.plan) {M : List ℕ} {i : T
     pub then : {t' : Tally} {w' : Writer} → Tallied t' (es ++ puts serves) → Appends w (text (map line_of (puts serves))) w' →
         At F P M j aims t' w' state (ls ++ map line_of (puts serves)) (es ++ puts serves) o
 
-  pub cycled_at : {j : Tables} {q q' : Queue Event} {k : ℕ} → s.cycles < 65536 → Sound q → contents q ≡ [] → Promised F i j (cycle q) (cycling (granted k) q') → Cycled j q q' k
-  cycled_at {j} {q} {q'} {k} h sound none p =
+  pub carried_out_at : {j : Tables} {q q' : Queue Event} {k : ℕ} → s.cycles < 65536 → Sound q → contents q ≡ [] → Promised F i j (cycle q) (cycling (granted k) q') → CarriedOut j q q' k
+  carried_out_at {j} {q} {q'} {k} h sound none p =
       record {
         state = y.state;
         serves = y.serves;

@@ -23,8 +23,8 @@ use writer::Writer;
 // No listing is longer; a shorter memory is refused.
 pub const MEMORY: usize = 65536;
 
-// The sheet's run in a network of this layout and this switch.
-fn start<L: Layout + Drop, S: Switch + Drop>(
+// Sets up a network of this layout and this switch, and carries out the sheet's run in it.
+fn set_up_and_play<L: Layout + Drop, S: Switch + Drop>(
     layout: L,
     switch: S,
     sheet: &Sheet,
@@ -50,6 +50,7 @@ fn start<L: Layout + Drop, S: Switch + Drop>(
     session.play(sheet.run.cycles, &mut planned, writer)
 }
 
+// The same, with a refusal as a fault at the run's line. A function of its own: each `?` there passes on a refusal as it is.
 fn run<L: Layout + Drop, S: Switch + Drop>(
     layout: L,
     switch: S,
@@ -60,7 +61,7 @@ fn run<L: Layout + Drop, S: Switch + Drop>(
     ensures ended { Ended (made_of (L.plan layout) (S.turn switch)) (said sheet.now) writer.old writer.new result }
     ensures lender { SameLender writer.old writer.new }
 {
-    start(layout, switch, sheet, writer).map_err(at_run_line)
+    set_up_and_play(layout, switch, sheet, writer).map_err(at_run_line)
 }
 
 // The sheet's run on this layout, with the sheet's kind of switch.

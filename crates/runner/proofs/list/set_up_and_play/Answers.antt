@@ -12,8 +12,8 @@ use Rattle.runner.specs.Tallies.{Tallied}
 use Rattle.runner.specs.Progress.{Left}
 use Rattle.runner.proofs.Beginning.{at_first, all_left, ran}
 use Rattle.runner.proofs.Fabrics.{same_fabric, then_same}
-use Rattle.runner.proofs.list.start.Goals as goal
-use Rattle.runner.proofs.list.start.Goals.{After-play-arg-1}
+use Rattle.runner.proofs.list.set_up_and_play.Goals as goal
+use Rattle.runner.proofs.list.set_up_and_play.Goals.{After-play-arg-1}
 
 pub play-requires : goal.play-requires
 play-requires g c =
