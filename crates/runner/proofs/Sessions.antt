@@ -58,12 +58,12 @@ module _ (F : Fabric) (P : Settings) (law : Lawful F.plan) {M : List ℕ} {A B :
       let z = offered_at F P law st.at p.node p.own p.destination (payload p) q h
       (let m = ok.sized.most in let n = ok.sized.places in let e = length-take-le p.count p.words (omega arith) in omega arith) (all_fit (payload p) ok.numbers.1.1.1.1.1) in
       record {
-        state = z.0;
-        offers = λ s₀ ps rs k. subst (λ (l : List (List Field)). Offers F P s₀ (ps ++ p ∷ []) z.0 l) (sym (append-nil rs)) (accepted k p z.1);
-        counted = z.2;
+        state = z.state;
+        offers = λ s₀ ps rs k. subst (λ (l : List (List Field)). Offers F P s₀ (ps ++ p ∷ []) z.state l) (sym (append-nil rs)) (accepted k p z.serves);
+        counted = z.counted;
         at =
-            subst (λ (l : List (List Field)). At F P M j (set x.aims (p.node * x.tickets + p.own) (Some p.destination)) x.tally w z.0 l es (o + 1)) (sym (append-nil ls))
-            (subst (λ (t : ℕ). At F P M j (set x.aims (p.node * t + p.own) (Some p.destination)) x.tally w z.0 ls es (o + 1)) (sym st.tickets) z.3);
+            subst (λ (l : List (List Field)). At F P M j (set x.aims (p.node * x.tickets + p.own) (Some p.destination)) x.tally w z.state l es (o + 1)) (sym (append-nil ls))
+            (subst (λ (t : ℕ). At F P M j (set x.aims (p.node * t + p.own) (Some p.destination)) x.tally w z.state ls es (o + 1)) (sym st.tickets) z.at);
       }
 
   -- a refused one
@@ -85,10 +85,10 @@ module _ (F : Fabric) (P : Settings) (law : Lawful F.plan) {M : List ℕ} {A B :
         λ h.
             let z = declined_at F P law st.at p.node p.own p.destination k (payload p) vs line q h short y.1 in
             record {
-              state = z.0;
-              offers = λ s₀ ps rs m. declined m p z.1;
-              counted = z.2;
-              at = z.3;
+              state = z.state;
+              offers = λ s₀ ps rs m. declined m p z.serves;
+              counted = z.counted;
+              at = z.at;
             },
       )
 
@@ -120,9 +120,9 @@ module _ (F : Fabric) (P : Settings) (law : Lawful F.plan) {M : List ℕ} {A B :
           let t = st.at.tallied in
           y.then
           (record {
-            entered = let a = m.counts.entered in let b = t.entered in let c = (sums_append es fresh).0 in omega arith;
-            off = let a = m.counts.off in let b = t.off in let c = (sums_append es fresh).1 in omega arith;
-            waited = let a = m.counts.waited in let b = t.waited in let c = (sums_append es fresh).2 in omega arith;
+            entered = let a = m.counts.entered in let b = t.entered in let c = (sums_append es fresh).ins in omega arith;
+            off = let a = m.counts.off in let b = t.off in let c = (sums_append es fresh).outs in omega arith;
+            waited = let a = m.counts.waited in let b = t.waited in let c = (sums_append es fresh).under_way in omega arith;
             short = m.waited;
           })
           m.appends

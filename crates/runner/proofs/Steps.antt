@@ -5,6 +5,7 @@ use Rattle.std.proofs.lemmas.Nat.{div_below, mod_below, div-add-mod'}
 use Rattle.std.proofs.lemmas.List.{length-append, length-set, get_or-set_same, get_or-set_other, take-append-le, take_all}
 use Rattle.std.proofs.lemmas.Bool.{cases_eq, eq-eqb, ne_eqb, or_parts, or_from, leb-false, lt-leb, le-ltb, not-false, not_from_true, cond-false}
 use Rattle.fabric.specs.Layouts.{Lawful}
+use Rattle.fabric.specs.Verdicts.{Verdict}
 use Rattle.fabric.specs.Verdicts.Verdict.{granted, refused}
 use Rattle.line.specs.Queues.{Queue, Sound, contents, free_places}
 use Rattle.bounds.specs.declared.settings.Settings.{Settings}
@@ -173,17 +174,25 @@ module _ (F : Fabric) (P : Settings) (law : Lawful F.plan) {M : List ℕ} {i : T
       let ex = own_exists n m d ws (offer_did (moved p).serves).0 in
       own_ticket F.plan law P sizes.few n m ex.0 ex.1
 
+  -- what an offer brings, by its verdict
+  pub record AfterOffer (j : Tables) (n m d : ℕ) (ws : List ℕ) (v : Verdict (Unit {0})) (aims' : List (Option ℕ)) (w' : Writer) (ls' : List (List Field)) : Type 0 where
+    pub state : State
+    pub serves : Serves F P s (offer n m d ws) (offering v) state
+    pub counted : state.cycles ≡ s.cycles
+    pub at : At F P M j aims' t w' state ls' es (o + 1)
+
   pub offered_at : {j : Tables} (n m d : ℕ) (ws : List ℕ) → Promised F i j (offer n m d ws) (offering (granted tt)) → o < 256 → length ws ≤ 4 → AllByRecursion (λ v. v < 2 ^ 32) ws →
-      (r : State) × Serves F P s (offer n m d ws) (offering (granted tt)) r × (r.cycles ≡ s.cycles) × At F P M j (set aims (n * P.tickets + m) (Some d)) t w r ls es (o + 1)
+      AfterOffer j n m d ws (granted tt) (set aims (n * P.tickets + m) (Some d)) w ls
   offered_at {j} n m d ws p h short narrow =
       let y = moved p in
       let e = offer_did y.serves in
       let u = n * P.tickets + m in
-      let below : u < 512 = own_below n m d ws p in (
-        _,
-        subst (λ (r : State). Serves F P s (offer n m d ws) (offering (granted tt)) r) e.1 y.serves,
-        refl,
-        record {
+      let below : u < 512 = own_below n m d ws p in
+      record {
+        state = _;
+        serves = subst (λ (r : State). Serves F P s (offer n m d ws) (offering (granted tt)) r) e.1 y.serves;
+        counted = refl;
+        at = record {
           calls = subst (λ (r : State). Calls F P j r) e.1 y.calls;
           aimed = aimed_offer u d ws below;
           places = length-set aims u (Some d) ∙ a.places;
@@ -191,8 +200,8 @@ module _ (F : Fabric) (P : Settings) (law : Lawful F.plan) {M : List ℕ} {i : T
           narrow = (short, narrow, a.narrow);
           tallied = a.tallied;
           spent = record { declined = a.spent.declined; packets = let x = a.spent.packets in omega arith; few = omega arith; long = a.spent.long; holds = a.spent.holds };
-        },
-      )
+        };
+      }
 
   declined_same : {n m d k : ℕ} {ws vs : List ℕ} {r : State} → Serves F P s (offer n m d ws) (offering (refused k vs)) r → r ≡ s
   declined_same (offer_refused e) = refl
@@ -200,14 +209,15 @@ module _ (F : Fabric) (P : Settings) (law : Lawful F.plan) {M : List ℕ} {i : T
   -- a line of a refused packet
   pub declined_at : {j : Tables} {w' : Writer} (n m d k : ℕ) (ws vs : List ℕ) (line : List Field) → Promised F i j (offer n m d ws) (offering (refused k vs)) → o < 256 →
       length (written line) ≤ 60 → Appends w (written line) w' →
-      (r : State) × Serves F P s (offer n m d ws) (offering (refused k vs)) r × (r.cycles ≡ s.cycles) × At F P M j aims t w' r (ls ++ line ∷ []) es (o + 1)
+      AfterOffer j n m d ws (refused k vs) aims w' (ls ++ line ∷ [])
   declined_at {j} {w'} n m d k ws vs line p h short app =
       let y = moved p in
-      let e = declined_same y.serves in (
-        s,
-        subst (λ (r : State). Serves F P s (offer n m d ws) (offering (refused k vs)) r) e y.serves,
-        refl,
-        record {
+      let e = declined_same y.serves in
+      record {
+        state = s;
+        serves = subst (λ (r : State). Serves F P s (offer n m d ws) (offering (refused k vs)) r) e y.serves;
+        counted = refl;
+        at = record {
           calls = subst (λ (r : State). Calls F P j r) e y.calls;
           aimed = a.aimed;
           places = a.places;
@@ -221,8 +231,8 @@ module _ (F : Fabric) (P : Settings) (law : Lawful F.plan) {M : List ℕ} {i : T
             long = a.spent.long;
             holds = line_more ls line a.spent.holds (omega arith) app;
           };
-        },
-      )
+        };
+      }
 
   -- the lines of a cycle's events
   record Did (r : State) (fresh : List Event) : Type 0 where
@@ -303,10 +313,10 @@ module _ (F : Fabric) (P : Settings) (law : Lawful F.plan) {M : List ℕ} {i : T
       after = few F P law accepts (subst (λ (Q : Settings). Leads F Q y.calls.run y.state) y.calls.settings y.calls.follows.leads)
 
       e1 : entries y.state.log ≡ ins es + ins fresh
-      e1 = sym (ins_told y.state.log) ∙ ap ins d.told ∙ (sums_append es fresh).0
+      e1 = sym (ins_told y.state.log) ∙ ap ins d.told ∙ (sums_append es fresh).ins
 
       e2 : count_off y.state.log ≡ outs es + outs fresh
-      e2 = sym (outs_told y.state.log) ∙ ap outs d.told ∙ (sums_append es fresh).1
+      e2 = sym (outs_told y.state.log) ∙ ap outs d.told ∙ (sums_append es fresh).outs
 
       e3 : entries s.log ≡ ins es
       e3 = sym (ins_told s.log) ∙ ap ins a.events
