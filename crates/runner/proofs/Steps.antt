@@ -241,24 +241,13 @@ module _ (F : Fabric) (P : Settings) (law : Lawful F.plan) {M : List ℕ} {i : T
     alike : Alike r.log s.log
     small : AllByRecursion Small fresh
 
-  cycle_parts : {q q' : Queue Event} {k : ℕ} {r : State} → s.cycles < 65536 → (v : Serves F P s (cycle q) (cycling (granted k) q') r) →
-      (r.cycles ≡ s.cycles + 1) × (Alike r.log s.log × AllByRecursion Small (puts v))
-  cycle_parts h (cycle_granted e c) = (
-    c.counted,
-    (
-      subst (λ (l : Log). Alike l s.log) (sym c.logged) (alike (happened c) s.log (moves s.cycles c.work F.plan.nodes)),
-      small_told F P s kept_inv law.few_nodes most_tickets sizes.short h c,
-    ),
-  )
-
   cycle_did : {q q' : Queue Event} {k : ℕ} {r : State} → s.cycles < 65536 → (v : Serves F P s (cycle q) (cycling (granted k) q') r) → Did r (puts v)
-  cycle_did h v =
-      let x = cycle_parts h v in
+  cycle_did {q} h (cycle_granted e c) =
       record {
-        counted = x.0;
-        told = sym (all_told F P (one_more led v)) ∙ ap (λ (y : List Event). y ++ puts v) (all_told F P led ∙ a.events);
-        alike = x.1.0;
-        small = x.1.1;
+        counted = c.counted;
+        told = sym (all_told F P (one_more led (cycle_granted {q = q} e c))) ∙ ap (λ (y : List Event). y ++ puts (cycle_granted {q = q} e c)) (all_told F P led ∙ a.events);
+        alike = subst (λ (l : Log). Alike l s.log) (sym c.logged) (alike (happened c) s.log (moves s.cycles c.work F.plan.nodes));
+        small = small_told F P s kept_inv law.few_nodes most_tickets sizes.short h c;
       }
 
   -- what a cycle that was granted brings
