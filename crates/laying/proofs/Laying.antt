@@ -1,5 +1,5 @@
 -- What the verdicts on a sheet's lines make of a report.
-use Rattle.std.proofs.Common.{◌≡◌, ℕ, ◌<◌, ◌≤◌, List, get_or, Err, Result, sym, refl, subst, inl, arith}
+use Rattle.std.proofs.Common.{◌≡◌, ℕ, ◌<◌, ◌≤◌, List, get_or, Err, Result, sym, refl, subst, subst₂, inl, arith}
 use Rattle.fabric.specs.declared.parts.Cable.{Cable}
 use Rattle.fabric.specs.Layouts.{Plan}
 use Rattle.fabric.specs.Verdicts.{Verdict}
@@ -29,6 +29,13 @@ as_plans plan {k} {cs} {x} e = go
     go (bad f i l g h) = same (bad f i l g h)
     go (unreached f g n l h) = same (unreached f g n l h)
     go (cabled f g h m) = cabled f g h m
+
+-- what is refused leaves one node without cables as it is
+pub refused_alone : {A : Type 0} {plan : A → Plan} {k : ℕ} {cs : List Cable} {x y : A} {n : ℕ} {named : List ℕ} → Cabling plan k cs x y (refused n named) →
+    Cabling (λ q. q) k cs lone lone (refused n named)
+refused_alone (unfair h) = unfair h
+refused_alone (bad f i l g h) = bad f i l g h
+refused_alone (unreached f g n l h) = unreached f g n l h
 
 module _ (k : ℕ) (cs : List Cable) (f : Fair k) where
   -- the number of the slot that a cable begins at
@@ -66,7 +73,7 @@ named_below (cabled f g h m) = tt
 
 -- the layout's lines of a sheet, by what was read of them
 pub as_read : (s : Shape) {t : Shape} (cs : List Cable) {ds : List Cable} (r : Report Plan) → s ≡ t → ds ≡ cs → Laid t ds r → Laid s cs r
-as_read s {t} cs r e d h = subst (λ (u : Shape). Laid u cs r) (sym e) (subst (λ (es : List Cable). Laid t es r) d h)
+as_read s cs r e d h = subst₂ (λ (u : Shape) (es : List Cable). Laid u es r) (sym e) d h
 
 -- what the exit of a `?` reports
 pub reported_err : {A B : Type 0} (seen : A → B) (P : Report B → Type 0) (f : Fault) (r : Result A Fault) → (y : Fault) × (r ≡ Err y) × (y ≡ f) →

@@ -131,12 +131,7 @@ one_layout (Cabled k) cs r s (p, l, v, a, e) (q, m, u, b, f) = e ∙ one_cabling
 pub one_judgement : (x : Shape) (cs : List Cable) (run : Run) (r s : Report Plan) → Judged x cs run r → Judged x cs run s → r ≡ s
 one_judgement x cs run r s a b = a.2 ∙ ap (λ l. then l (settled run)) (one_layout x cs a.0 b.0 a.1 b.1) ∙ sym b.2
 
--- the plan that is answered
-abbrev plan_in : Report Plan → Plan
-plan_in (answers p) = p
-plan_in (faults x) = lone
-
--- is lawful
+-- the plan that is answered is lawful
 mesh_law : (w h : ℕ) (p : Plan) → answers p ≡ by_layer Layout layout_line (mesh_verdict w h) → Lawful p
 mesh_law w h p = go (eqb w 0 || eqb h 0 || ltb 64 (w * h)) refl
   where
@@ -145,17 +140,17 @@ mesh_law w h p = go (eqb w 0 || eqb h 0 || ltb 64 (w * h)) refl
 
     go : (b : Bool) → (eqb w 0 || eqb h 0 || ltb 64 (w * h)) ≡ b → answers p ≡ by_layer Layout layout_line (cond b (refused 12 []) (granted (mesh_plan w h))) → Lawful p
     go true t e = cc
-    go false t e = subst Lawful (sym (ap plan_in e)) (mesh_lawful w h (fair t))
+    go false t e = let s : mesh_plan w h ≡ p = cc in subst Lawful s (mesh_lawful w h (fair t))
 
 laid_law : (x : Shape) (cs : List Cable) (p : Plan) → Laid x cs (answers p) → Lawful p
 laid_law (Mesh w h) cs p e = mesh_law w h p e
-laid_law (Cabled k) cs p (q, l, granted t, a, e) = subst Lawful (sym (ap plan_in e)) l
+laid_law (Cabled k) cs p (q, l, granted t, a, e) = let s : q ≡ p = cc in subst Lawful s l
 laid_law (Cabled k) cs p (q, l, refused n vs, a, e) = cc
 
 pub judged_law : (x : Shape) (cs : List Cable) (run : Run) (p : Plan) → Judged x cs run (answers p) → Lawful p
 judged_law x cs run p (answers q, laid, e) = go (set_up_verdict q (settings_of run)) e
   where
     go : (v : Verdict (Unit {0})) → answers p ≡ by_layer Network (λ _ _. 3) (granting (λ _. q) v) → Lawful p
-    go (granted t) f = subst Lawful (sym (ap plan_in f)) (laid_law x cs q laid)
+    go (granted t) f = let s : q ≡ p = cc in subst Lawful s (laid_law x cs q laid)
     go (refused n vs) f = cc
 judged_law x cs run p (faults y, laid, e) = cc

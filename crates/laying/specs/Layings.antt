@@ -1,9 +1,12 @@
 -- What the lines of a sheet are answered that name a layout and its settings: the layout stands at line 1, the run at line 3 and the count of cables at line 4.
 use Rattle.std.specs.Prelude.{◌≡◌, ℕ, ◌+◌, cond, List, ◌==◌, slice_index}
 use Rattle.fabric.specs.declared.parts.Cable.{Cable}
+use Rattle.fabric.specs.declared.refusal.Refusal.{Refusal}
 use Rattle.fabric.specs.Layouts.{Plan, Lawful}
 use Rattle.fabric.specs.Meshes.{mesh_verdict}
+use Rattle.fabric.specs.Refusals.{numbered}
 use Rattle.fabric.specs.Verdicts.{Verdict, granting}
+use Rattle.fabric.specs.Verdicts.Verdict.{refused}
 use Rattle.cabled.specs.Cables.{Cabling, lone}
 use Rattle.bounds.specs.declared.settings.Settings.{Settings}
 use Rattle.bounds.specs.SetUp.{set_up_verdict}
@@ -17,10 +20,15 @@ use Rattle.laying.specs.Reports.{Report, by_layer, then}
 abbrev pub layout_line : ℕ → List ℕ → ℕ
 layout_line k named = cond (k == 13) (5 + slice_index named 0) (cond (k == 14) 4 1)
 
--- what the layout's lines are answered; which node a 14 names is free, and the laws say what the plan says of missing nodes
+-- what the layout's lines are answered; what a refusal names is told by `RefusedBy`, and the laws say what the plan says of missing nodes
 abbrev pub Laid : Shape → List Cable → Report Plan → Type 0
 Laid (Mesh w h) cs r = r ≡ by_layer Layout layout_line (mesh_verdict w h)
 Laid (Cabled n) cs r = (p : Plan) × Lawful p × (v : Verdict Unit) × Cabling (λ q. q) n cs lone p v × (r ≡ by_layer Layout layout_line (granting (λ _. p) v))
+
+-- the verdict on the layout's lines is this refusal, with what it names: 13 the first cable that is not good, 14 any node that is cut off
+abbrev pub RefusedBy : Shape → List Cable → Refusal → Type 0
+RefusedBy (Mesh w h) cs e = mesh_verdict w h ≡ refused (numbered e).0 (numbered e).1
+RefusedBy (Cabled n) cs e = Cabling (λ q. q) n cs lone lone (refused (numbered e).0 (numbered e).1)
 
 abbrev pub settings_of : Run → Settings
 settings_of r = record { tickets = r.tickets; words = r.words; epoch = r.epoch; seed = r.seed }

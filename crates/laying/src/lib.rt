@@ -1,12 +1,12 @@
 // Lays out what a sheet names: its layout and its settings, or the fault at the line that is refused.
 #![tactic(auto)]
 
-ghost use Rattle.std.specs.Prelude.{◌≡◌, ℕ, ◌+◌, ◌≤◌, [], slice_index, MatchResult};
+ghost use Rattle.std.specs.Prelude.{◌≡◌, ℕ, ◌+◌, ◌≤◌, [], slice_index, IfErr};
 ghost use Rattle.fabric.specs.Refusals.{numbered};
 ghost use Rattle.cabled.specs.Plans.{plan_of};
 ghost use Rattle.text.specs.declared.fault.Layer.TheVariants.{Network};
 ghost use Rattle.text.specs.declared.parts.Shape.{Shape as Form};
-ghost use Rattle.laying.specs.Layings.{layout_line, Laid, settings_of};
+ghost use Rattle.laying.specs.Layings.{layout_line, Laid, RefusedBy, settings_of};
 ghost use Rattle.laying.specs.Reports.{reported};
 
 use bounds::settings::Settings;
@@ -38,7 +38,8 @@ fn line_of(refusal: Refusal) -> u32
 }
 
 pub fn lay_mesh(width: u32, height: u32) -> Result<Mesh, Fault>
-    ensures { Laid (Form.Mesh width height) [] (reported ⟦<Mesh as Layout>⟧.plan result) }
+    ensures laid { Laid (Form.Mesh width height) [] (reported ⟦<Mesh as Layout>⟧.plan result) }
+    ensures named { IfErr result (λ f. RefusedBy (Form.Mesh width height) [] f.refusal) }
 {
     Mesh::new(width as usize, height as usize).map_err(|refusal| Fault {
         refusal,
@@ -47,10 +48,10 @@ pub fn lay_mesh(width: u32, height: u32) -> Result<Mesh, Fault>
     })
 }
 
-// Joins so many nodes by the cables. A refused cable is named by its place in the list, which its line tells too.
+// Joins so many nodes by the cables. A refusal names the first cable that does not fit, by its place, or a node that has no way from node 0.
 pub fn lay_cables(nodes: u32, cables: &[Cable]) -> Result<Cabled, Fault>
     ensures laid { Laid (Form.Cabled nodes) cables.now (reported plan_of result) }
-    ensures named { MatchResult result (λ _. Unit {0}) (λ f. (i : ℕ) → f.refusal ≡ Refusal.Cable i → f.line ≡ 5 + i) }
+    ensures named { IfErr result (λ f. RefusedBy (Form.Cabled nodes) cables.now f.refusal) }
 {
     let mut layout = Cabled::new();
     // A match: a closure for `map_err` would need a clause of its own, for what `line_of` asks.

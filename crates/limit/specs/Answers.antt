@@ -11,13 +11,14 @@ use Rattle.network.specs.Cycle.{State}
 use Rattle.network.specs.Runs.{Call, Leads}
 use Rattle.network.specs.Promises.{InTime}
 use Rattle.text.specs.declared.fault.Fault.{Fault}
+use Rattle.text.specs.declared.fault.Layer.TheVariants.{Layout}
 use Rattle.text.specs.declared.parts.Run.{Run}
 use Rattle.text.specs.Faults.{told}
 use Rattle.runsheet.specs.Said.{Said}
 use Rattle.runsheet.specs.Sheets.{SheetText, Refused}
 use Rattle.limit.specs.declared.answer.Answer.{Answer}
 use Rattle.limit.specs.declared.answer.Answer.TheVariants.{OnMesh, OnCables}
-use Rattle.laying.specs.Layings.{settings_of, Judged}
+use Rattle.laying.specs.Layings.{settings_of, RefusedBy, Judged}
 use Rattle.laying.specs.Reports.{Report, then}
 use Rattle.laying.specs.Reports.Report.{answers, faults}
 
@@ -40,9 +41,13 @@ Answered bs r =
     ((s : Said) × SheetText bs s × Answers s r × Vouched s.run r)
     ⊎ ((f : Fault) × Refused bs f × (r ≡ faults (told f)))
 
--- any bytes are answered one way
-abbrev pub OneAnswer : Type 0
-OneAnswer = (bs : List ℕ) (r r' : Report (Plan × Limits)) → Answered bs r → Answered bs r' → r ≡ r'
+-- a fault of the layout names what refuses it: 13 the first cable that is not good, 14 a node that is cut off
+abbrev pub Named : List ℕ → Fault → Type 0
+Named bs f = f.layer ≡ Layout → (s : Said) → SheetText bs s → RefusedBy s.shape s.cables f.refusal
+
+-- the bytes are answered one way
+pub record OneAnswer (bs : List ℕ) : Type 0 where
+  pub answer : (r r' : Report (Plan × Limits)) → Answered bs r → Answered bs r' → r ≡ r'
 
 -- what an answer of the code means
 abbrev pub meant : Answer → Plan × Limits

@@ -1,9 +1,9 @@
 // What a sheet is answered.
-ghost use Rattle.std.specs.Prelude.{◌≡◌, IfOk};
+ghost use Rattle.std.specs.Prelude.{◌≡◌, IfOk, IfErr};
 ghost use Rattle.laying.specs.Layings.{settings_of, settled};
 ghost use Rattle.laying.specs.Reports.{reported};
 ghost use Rattle.bounds.specs.Lateness.{limits_of};
-ghost use Rattle.limit.specs.Answers.{AlwaysInTime, Answered, OneAnswer, meant};
+ghost use Rattle.limit.specs.Answers.{AlwaysInTime, Answered, Named, OneAnswer, meant};
 
 use bounds::limits::Limits;
 use cabled::cabled::Cabled;
@@ -29,9 +29,11 @@ fn bound<L: Layout>(layout: &L, run: Run) -> Result<Limits, Fault>
     Limits::of(layout, settings(run)).map_err(at_run_line)
 }
 
+#[tactic(auto, using(crate::proofs::Answering::one_answer))]
 pub fn reply(bytes: &[u8]) -> Result<Answer, Fault>
     ensures answered { Answered bytes.now (reported meant result) }
-    ensures only { OneAnswer }
+    ensures named { IfErr result (Named bytes.now) }
+    ensures only { OneAnswer bytes.now }
 {
     let sheet = read(bytes)?;
     match sheet.shape {

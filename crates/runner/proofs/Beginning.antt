@@ -46,7 +46,8 @@ at_first b h nodes tickets aims tallied =
           declined = 0;
           packets = refl;
           few = omega arith;
-          page = record { written = h.none; rest = refl; long = h.room; bytes = omega arith };
+          long = h.room;
+          holds = record { written = h.none; rest = refl; few = omega arith };
         };
       };
       nodes = nodes;
@@ -66,14 +67,14 @@ all_left s f =
     }
 
 -- a run that was played, for the sheet that it is of
-pub ran : {F F' : Fabric} {P : Settings} {ps : List Packet} (s : Said) {w v : Writer} → F' ≡ F → P ≡ settings_of s.run → ps ≡ s.packets → granted tt ≡ set_up_verdict F'.plan P →
+pub ran : {F F' : Fabric} {P : Settings} {ps : List Packet} (s : Said) (w : Writer) {v : Writer} → F' ≡ F → P ≡ settings_of s.run → ps ≡ s.packets → granted tt ≡ set_up_verdict F'.plan P →
     PlayedFrom F' P (beyond w) s.run.cycles ps v → Ran F s w v (granted tt)
-ran {F} {F'} {P} {ps} s {w} {v} f p q g h = (
+ran {F} {F'} {P} {ps} s w f p q g h = (
   sym (g ∙ ap₂ (λ (X : Fabric) (Q : Settings). set_up_verdict X.plan Q) f p),
   (
     h.out,
     subst (λ (qs : List Packet). Lists F (settings_of s.run) qs s.run.cycles h.out) q
         (subst₂ (λ (X : Fabric) (Q : Settings). Lists X Q ps s.run.cycles h.out) f p h.lists),
-    record { written = h.written; rest = h.rest; few = h.short },
+    h.holds,
   ),
 )

@@ -19,8 +19,13 @@ use Rattle.runner.specs.Tallies.{Small}
 use Rattle.runner.specs.Progress.{Narrow}
 
 -- what is summed up of events
-pub sums_append : (a b : List Event) → (ins (a ++ b) ≡ ins a + ins b) × (outs (a ++ b) ≡ outs a + outs b) × (under_way (a ++ b) ≡ under_way a + under_way b)
-sums_append a b = (sum_by-append _ a b, sum_by-append _ a b, sum_by-append _ a b)
+pub record Sums (a b : List Event) : Type 0 where
+  pub ins : ins (a ++ b) ≡ ins a + ins b
+  pub outs : outs (a ++ b) ≡ outs a + outs b
+  pub under_way : under_way (a ++ b) ≡ under_way a + under_way b
+
+pub sums_append : (a b : List Event) → Sums a b
+sums_append a b = record { ins = sum_by-append _ a b; outs = sum_by-append _ a b; under_way = sum_by-append _ a b }
 
 pub sums_cons : (e : Event) (es : List Event) → (ins (e ∷ es) ≡ enters e.kind + ins es) × (outs (e ∷ es) ≡ leaves e.kind + outs es)
 sums_cons e es = (sum_by-cons _ e es, sum_by-cons _ e es)
@@ -29,15 +34,15 @@ sums_cons e es = (sum_by-cons _ e es, sum_by-cons _ e es)
 pub ins_told : (l : Log) → ins (told l) ≡ entries l
 ins_told [] = refl
 ins_told (offered t p ∷ l) = ins_told l
-ins_told (entered f n ∷ l) = let h = ins_told l in let e = (sums_append (told l) (event_in f n ∷ [])).0 in omega arith
-ins_told (off f n c ∷ l) = let h = ins_told l in let e = (sums_append (told l) (event_out f n c ∷ [])).0 in omega arith
+ins_told (entered f n ∷ l) = let h = ins_told l in let e = (sums_append (told l) (event_in f n ∷ [])).ins in omega arith
+ins_told (off f n c ∷ l) = let h = ins_told l in let e = (sums_append (told l) (event_out f n c ∷ [])).ins in omega arith
 ins_told (collected t r ws ∷ l) = ins_told l
 
 pub outs_told : (l : Log) → outs (told l) ≡ count_off l
 outs_told [] = refl
 outs_told (offered t p ∷ l) = outs_told l
-outs_told (entered f n ∷ l) = let h = outs_told l in let e = (sums_append (told l) (event_in f n ∷ [])).1 in omega arith
-outs_told (off f n c ∷ l) = let h = outs_told l in let e = (sums_append (told l) (event_out f n c ∷ [])).1 in omega arith
+outs_told (entered f n ∷ l) = let h = outs_told l in let e = (sums_append (told l) (event_in f n ∷ [])).outs in omega arith
+outs_told (off f n c ∷ l) = let h = outs_told l in let e = (sums_append (told l) (event_out f n c ∷ [])).outs in omega arith
 outs_told (collected t r ws ∷ l) = outs_told l
 
 -- a cycle brings entries and takings off alone

@@ -25,8 +25,8 @@ use Rattle.runner.specs.Answering.WrittenOut.{listing}
 use Rattle.runner.proofs.Telling.{ok_shown}
 
 -- the exit of a `?`
-pub faulted : (text : List ℕ) {w v : Writer} (f : Fault) (r : Result (Unit {0}) Fault) → (y : Fault) × (r ≡ Err y) × (y ≡ f) → v ≡ w → Faulted text f → Carried text w v r
-faulted text {w} {v} f r (y, e, i) same h = subst (λ x. Carried text w v x) (sym e) (subst (λ x. Faulted text x) (sym i) h, same)
+pub faulted : (text : List ℕ) (w : Writer) {v : Writer} (f : Fault) (r : Result (Unit {0}) Fault) → (y : Fault) × (r ≡ Err y) × (y ≡ f) → v ≡ w → Faulted text f → Carried text w v r
+faulted text w {v} f r (y, e, i) same h = subst (λ x. Carried text w v x) (sym e) (subst (λ x. Faulted text x) (sym i) h, same)
 
 pub no_layout : (s : Said) (x : ℕ × Layer × ℕ) → Laid s.shape s.cables (faults x) → Judged s.shape s.cables s.run (faults x)
 no_layout s x h = (faults x, h, refl)
@@ -65,7 +65,7 @@ module _ (text memory : List ℕ) (w : Writer) (none : listed w ≡ []) (all : b
   blank = record { none = none; room = subst (λ (m : List ℕ). 65536 ≤ length m) (sym all) long }
 
   -- these bytes are the listing
-  out : {v : Writer} (bs : List ℕ) (n : ℕ) → Listing text bs → Holds w bs v → n ≡ length (listed v) → WrittenOut text memory (granted n) v.memory.now
+  out : {v : Writer} (bs : List ℕ) (n : ℕ) → Listing text bs → Holds (beyond w) v bs 65536 → n ≡ length (listed v) → WrittenOut text memory (granted n) v.memory.now
   out {v} bs n l h e =
       let at : n ≡ length bs = e ∙ ap length h.written in
       let now : v.memory.now ≡ bs ++ drop (length bs) memory =

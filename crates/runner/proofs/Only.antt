@@ -29,12 +29,11 @@ use Rattle.laying.specs.Reports.Report.{answers, faults}
 use Rattle.laying.specs.Layings.{settings_of, Judged}
 use Rattle.laying.proofs.Single.{one_judgement, judged_law}
 use Rattle.writer.specs.Listings.{no_line, done_line, end_line}
-use Rattle.runner.specs.Answering.{network_of, ListsSheet}
+use Rattle.runner.specs.Answering.{network_of, ListsSheet, Listing, OneListing}
 use Rattle.runner.specs.Listing.{line_of, ins, outs, under_way, mean_of, offer_of, Offers, Collects, Turn, Turns, Lists}
 use Rattle.runner.specs.Listing.Offers.{none as none_offered, accepted, declined}
 use Rattle.runner.specs.Listing.Collects.{none as none_collected, brought, left}
 use Rattle.runner.specs.Listing.Turns.{begun, one_more}
-use Rattle.runner.specs.Only.{OneListing}
 use Rattle.runner.proofs.Steps.{collect_did, collect_taken}
 
 abbrev Lines : Type 0
@@ -198,10 +197,13 @@ one_judged : (s : Said) (r r' : Report Plan) (bs bs' : List ℕ) → Judges s r 
 one_judged s r r' bs bs' j j' l l' =
     one_answer s r bs bs' j l (subst (λ (q : Report Plan). ListsSheet s q bs') (one_judgement s.shape s.cables s.run r' r j' j) l')
 
-pub one_listing : OneListing
-one_listing text bs bs' (inl (s, read, (r, j, l))) (inl (t, read', (r', j', l'))) =
+same_listing : (text bs bs' : List ℕ) → Listing text bs → Listing text bs' → bs ≡ bs'
+same_listing text bs bs' (inl (s, read, (r, j, l))) (inl (t, read', (r', j', l'))) =
     let k = subst (λ (u : Said). Judges u r' × ListsSheet u r' bs') ((one_sheet text).sheet t s read' read) (j', l') in
     one_judged s r r' bs bs' j k.0 l k.1
-one_listing text bs bs' (inl (s, read, h)) (inr (f, h', e)) = absurd ((one_sheet text).none s f read h')
-one_listing text bs bs' (inr (f, h', e)) (inl (s, read, h)) = absurd ((one_sheet text).none s f read h')
-one_listing text bs bs' (inr (f, h, e)) (inr (g, k, i)) = e ∙ ap (λ x. written (fault_fields x)) ((one_sheet text).fault f g h k) ∙ sym i
+same_listing text bs bs' (inl (s, read, h)) (inr (f, h', e)) = absurd ((one_sheet text).none s f read h')
+same_listing text bs bs' (inr (f, h', e)) (inl (s, read, h)) = absurd ((one_sheet text).none s f read h')
+same_listing text bs bs' (inr (f, h, e)) (inr (g, k, i)) = e ∙ ap (λ x. written (fault_fields x)) ((one_sheet text).fault f g h k) ∙ sym i
+
+pub one_listing : (text : List ℕ) → OneListing text
+one_listing text = record { listing = same_listing text }

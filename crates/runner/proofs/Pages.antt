@@ -14,7 +14,7 @@ use Rattle.network.specs.Kinds.{event_word}
 use Rattle.runner.specs.Listing.{line_of, enters, leaves, ins, outs}
 use Rattle.runner.specs.Tallies.{Small}
 use Rattle.runner.proofs.Events.{sums_cons}
-use Rattle.runner.specs.Progress.{Page}
+use Rattle.runner.specs.Answering.{Holds}
 
 -- the line of an event has few bytes
 line_short : (e : Event) → Small e → length (written (line_of e)) ≤ 20
@@ -29,26 +29,29 @@ line_short e h =
 pub text_one : (l : List Field) → text (l ∷ []) ≡ written l
 text_one l = append-nil (written l)
 
--- the room that a page leaves
-pub page_room : {M : List ℕ} {w : Writer} {ls : List (List Field)} {b : ℕ} → Page M w ls b → 65536 ≤ b + length (beyond w)
-page_room {M} {ls = ls} p = omega (arith, p.long, p.bytes, ap length p.rest ∙ length-drop (length (text ls)) M)
+-- the room that is left
+pub room_beyond : {M : List ℕ} {w : Writer} {bs : List ℕ} {b : ℕ} → 65536 ≤ length M → Holds M w bs b → 65536 ≤ b + length (beyond w)
+room_beyond {M} {bs = bs} long h = omega (arith, h.few, ap length h.rest ∙ length-drop (length bs) M)
 
--- the next page, with more lines or with one more
-pub page_more : {M : List ℕ} {w v : Writer} {ls : List (List Field)} {b c : ℕ} (more : List (List Field)) → Page M w ls b → b + length (text more) ≤ c → Appends w (text more) v → Page M v (ls ++ more) c
-page_more {M} {ls = ls} more p h a =
-    let both = flat_map-append written ls more in
-    let long = ap length both ∙ length-append (text ls) (text more) in
+-- more bytes, more lines or one more line
+holds_more : {M : List ℕ} {w v : Writer} {bs : List ℕ} {b c : ℕ} (more : List ℕ) → Holds M w bs b → b + length more ≤ c → Appends w more v → Holds M v (bs ++ more) c
+holds_more {M} {bs = bs} more p h a =
+    let long = length-append bs more in
     record {
-      written = a.listed ∙ ap (λ (x : List ℕ). x ++ text more) p.written ∙ sym both;
-      rest = a.beyond ∙ ap (drop (length (text more))) p.rest ∙ drop-drop (length (text more)) (length (text ls)) M ∙ ap (λ (k : ℕ). drop k M) (sym long);
-      long = p.long;
-      bytes = omega (arith, p.bytes, h, long);
+      written = a.listed ∙ ap (λ (x : List ℕ). x ++ more) p.written;
+      rest = a.beyond ∙ ap (drop (length more)) p.rest ∙ drop-drop (length more) (length bs) M ∙ ap (λ (k : ℕ). drop k M) (sym long);
+      few = omega (arith, p.few, h, long);
     }
 
-pub page_line : {M : List ℕ} {w v : Writer} {ls : List (List Field)} {b c : ℕ} (line : List Field) → Page M w ls b → b + length (written line) ≤ c → Appends w (written line) v → Page M v (ls ++ line ∷ []) c
-page_line {M} {w} {v} {ls} {b} {c} line p h a =
+pub lines_more : {M : List ℕ} {w v : Writer} (ls more : List (List Field)) {b c : ℕ} → Holds M w (text ls) b → b + length (text more) ≤ c → Appends w (text more) v →
+    Holds M v (text (ls ++ more)) c
+lines_more {M} {v = v} ls more {c = c} p h a = subst (λ (bs : List ℕ). Holds M v bs c) (sym (flat_map-append written ls more)) (holds_more (text more) p h a)
+
+pub line_more : {M : List ℕ} {w v : Writer} (ls : List (List Field)) (line : List Field) {b c : ℕ} → Holds M w (text ls) b → b + length (written line) ≤ c → Appends w (written line) v →
+    Holds M v (text (ls ++ line ∷ [])) c
+line_more {w = w} {v = v} ls line p h a =
     let one = text_one line in
-    page_more (line ∷ []) p (omega (arith, h, ap length one)) (subst (λ (x : List ℕ). Appends w x v) (sym one) a)
+    lines_more ls (line ∷ []) p (omega (arith, h, ap length one)) (subst (λ (x : List ℕ). Appends w x v) (sym one) a)
 
 -- the lines of events have at most 20 bytes each
 pub text_short : (es : List Event) → AllByRecursion Small es → length (text (map line_of es)) ≤ 20 * (ins es + outs es)

@@ -18,7 +18,7 @@ use Rattle.network.specs.Runs.Outcome.{offering, cycling, collecting}
 use Rattle.calls.specs.declared.tables.Tables.{Tables}
 use Rattle.calls.specs.Follow.{Promised}
 use Rattle.text.specs.declared.parts.Packet.{Packet}
-use Rattle.text.specs.Texts.{Field, Fits, number, written}
+use Rattle.text.specs.Texts.{Field, Fits, number, written, text}
 use Rattle.text.specs.Lines.{payload}
 use Rattle.writer.specs.declared.writer.Writer.{Writer}
 use Rattle.writer.specs.Listings.{beyond, LineOut, no_line, done_line, end_line}
@@ -30,10 +30,11 @@ use Rattle.runner.specs.Listing.{line_of, ins, outs, under_way, mean_of, offer_o
 use Rattle.runner.specs.Listing.Offers.{accepted, declined}
 use Rattle.runner.specs.Listing.Collects.{brought, left}
 use Rattle.runner.specs.Tallies.{Tellable, Told}
-use Rattle.runner.specs.Progress.{Page, At, Stands, Sendable}
-use Rattle.runner.proofs.Pages.{page_line}
+use Rattle.runner.specs.Answering.{Holds}
+use Rattle.runner.specs.Progress.{At, Stands, Sendable}
+use Rattle.runner.proofs.Pages.{line_more}
 use Rattle.runner.proofs.Events.{sums_append}
-use Rattle.runner.proofs.Steps.{own_below, offered_at, declined_at, lines_few, room_left, tally_few, most_tickets, Cycled, cycled_at, not_refused, Numbered, numbered, busy, not_busy, Brought, brought_at, left_at}
+use Rattle.runner.proofs.Steps.{own_below, offered_at, declined_at, lines_few, room_left, tally_few, most_tickets, CarriedOut, carried_out_at, not_refused, Numbered, numbered, busy, not_busy, Brought, brought_at, left_at}
 use Rattle.runner.proofs.Telling.{ok_shown}
 
 all_fit : (ws : List ℕ) → AllByRecursion Fits (map number ws) → AllByRecursion (λ v. v < 2 ^ 32) ws
@@ -57,12 +58,12 @@ module _ (F : Fabric) (P : Settings) (law : Lawful F.plan) {M : List ℕ} {A B :
       let z = offered_at F P law st.at p.node p.own p.destination (payload p) q h
       (let m = ok.sized.most in let n = ok.sized.places in let e = length-take-le p.count p.words (omega arith) in omega arith) (all_fit (payload p) ok.numbers.1.1.1.1.1) in
       record {
-        state = z.0;
-        offers = λ s₀ ps rs k. subst (λ (l : List (List Field)). Offers F P s₀ (ps ++ p ∷ []) z.0 l) (sym (append-nil rs)) (accepted k p z.1);
-        counted = z.2;
+        state = z.state;
+        offers = λ s₀ ps rs k. subst (λ (l : List (List Field)). Offers F P s₀ (ps ++ p ∷ []) z.state l) (sym (append-nil rs)) (accepted k p z.serves);
+        counted = z.counted;
         at =
-            subst (λ (l : List (List Field)). At F P M j (set x.aims (p.node * x.tickets + p.own) (Some p.destination)) x.tally w z.0 l es (o + 1)) (sym (append-nil ls))
-            (subst (λ (t : ℕ). At F P M j (set x.aims (p.node * t + p.own) (Some p.destination)) x.tally w z.0 ls es (o + 1)) (sym st.tickets) z.3);
+            subst (λ (l : List (List Field)). At F P M j (set x.aims (p.node * x.tickets + p.own) (Some p.destination)) x.tally w z.state l es (o + 1)) (sym (append-nil ls))
+            (subst (λ (t : ℕ). At F P M j (set x.aims (p.node * t + p.own) (Some p.destination)) x.tally w z.state ls es (o + 1)) (sym st.tickets) z.at);
       }
 
   -- a refused one
@@ -84,10 +85,10 @@ module _ (F : Fabric) (P : Settings) (law : Lawful F.plan) {M : List ℕ} {A B :
         λ h.
             let z = declined_at F P law st.at p.node p.own p.destination k (payload p) vs line q h short y.1 in
             record {
-              state = z.0;
-              offers = λ s₀ ps rs m. declined m p z.1;
-              counted = z.2;
-              at = z.3;
+              state = z.state;
+              offers = λ s₀ ps rs m. declined m p z.serves;
+              counted = z.counted;
+              at = z.at;
             },
       )
 
@@ -96,11 +97,11 @@ module _ (F : Fabric) (P : Settings) (law : Lawful F.plan) {M : List ℕ} {A B :
     pub not_declined : {k : ℕ} {vs : List ℕ} → Promised F x.network.inner j (cycle q) (cycling (refused k vs) q') → ⊥
     not_declined p = not_refused F P law st.at early (subst (λ (z : Queue Event). 128 ≤ free_places z) (sym e) (omega arith)) p
 
-    pub carried_out : {k : ℕ} → Promised F x.network.inner j (cycle q) (cycling (granted k) q') → Cycled F P law st.at j q q' k
+    pub carried_out : {k : ℕ} → Promised F x.network.inner j (cycle q) (cycling (granted k) q') → CarriedOut F P law st.at j q q' k
     carried_out p =
-        cycled_at F P law st.at early (subst (λ (z : Queue Event). Sound z) (sym e) (omega arith, λ h. h)) (ap contents e) p
+        carried_out_at F P law st.at early (subst (λ (z : Queue Event). Sound z) (sym e) (omega arith, λ h. h)) (ap contents e) p
 
-    module _ {k : ℕ} (y : Cycled F P law st.at j q q' k) where
+    module _ {k : ℕ} (y : CarriedOut F P law st.at j q q' k) where
       pub tellable : Tellable x.tally w (contents q')
       tellable =
           subst (λ (es' : List Event). Tellable x.tally w es') (sym y.held)
@@ -119,9 +120,9 @@ module _ (F : Fabric) (P : Settings) (law : Lawful F.plan) {M : List ℕ} {A B :
           let t = st.at.tallied in
           y.then
           (record {
-            entered = let a = m.counts.entered in let b = t.entered in let c = (sums_append es fresh).0 in omega arith;
-            off = let a = m.counts.off in let b = t.off in let c = (sums_append es fresh).1 in omega arith;
-            waited = let a = m.counts.waited in let b = t.waited in let c = (sums_append es fresh).2 in omega arith;
+            entered = let a = m.counts.entered in let b = t.entered in let c = (sums_append es fresh).ins in omega arith;
+            off = let a = m.counts.off in let b = t.off in let c = (sums_append es fresh).outs in omega arith;
+            waited = let a = m.counts.waited in let b = t.waited in let c = (sums_append es fresh).under_way in omega arith;
             short = m.waited;
           })
           m.appends
@@ -187,7 +188,7 @@ module _ (F : Fabric) (P : Settings) (law : Lawful F.plan) {M : List ℕ} {A B :
 
   -- the last line
   pub ends : {v : Writer} (r : Result (Unit {0}) Refusal) → LineOut w (end_line x.tally.entered x.tally.off (mean_of x.tally.waited x.tally.off)) v (shown r) →
-      (r ≡ Ok tt) × Page M v (ls ++ end_line (ins es) (outs es) (mean_of (under_way es) (outs es)) ∷ []) 65536
+      (r ≡ Ok tt) × Holds M v (text (ls ++ end_line (ins es) (outs es) (mean_of (under_way es) (outs es)) ∷ [])) 65536
   ends {v} r out =
       let t = x.tally in
       let k = st.at.tallied in
@@ -198,7 +199,7 @@ module _ (F : Fabric) (P : Settings) (law : Lawful F.plan) {M : List ℕ} {A B :
       let left = room_left F P law st.at in
       let z = with_room (let n : length (written line) ≤ length (beyond w) = omega arith in n) out in (
         ok_shown r z.0,
-        subst (λ (l : List Field). Page M v (ls ++ l ∷ []) 65536)
+        subst (λ (l : List Field). Holds M v (text (ls ++ l ∷ [])) 65536)
             (ap₂ (λ (a b : ℕ). end_line a b (mean_of t.waited b)) k.entered k.off ∙ ap (λ (c : ℕ). end_line (ins es) (outs es) (mean_of c (outs es))) k.waited)
-            (page_line line st.at.spent.page (omega (arith, lines_few F P law st.at, short)) z.1),
+            (line_more ls line st.at.spent.holds (omega (arith, lines_few F P law st.at, short)) z.1),
       )

@@ -5,6 +5,7 @@ use Rattle.std.proofs.lemmas.Nat.{div_below, mod_below, div-add-mod'}
 use Rattle.std.proofs.lemmas.List.{length-append, length-set, get_or-set_same, get_or-set_other, take-append-le, take_all}
 use Rattle.std.proofs.lemmas.Bool.{cases_eq, eq-eqb, ne_eqb, or_parts, or_from, leb-false, lt-leb, le-ltb, not-false, not_from_true, cond-false}
 use Rattle.fabric.specs.Layouts.{Lawful}
+use Rattle.fabric.specs.Verdicts.{Verdict}
 use Rattle.fabric.specs.Verdicts.Verdict.{granted, refused}
 use Rattle.line.specs.Queues.{Queue, Sound, contents, free_places}
 use Rattle.bounds.specs.declared.settings.Settings.{Settings}
@@ -20,15 +21,16 @@ use Rattle.network.specs.Runs.Serves.{offer_granted, offer_refused, cycle_grante
 use Rattle.network.specs.Runs.Leads.{one_more}
 use Rattle.network.specs.Promises.{puts, Kept}
 use Rattle.network.proofs.Invariant.{Inv, Opened}
-use Rattle.network.proofs.Running.{peel, invariant}
+use Rattle.network.proofs.Running.{peel}
 use Rattle.network.proofs.Offering.{length_words}
-use Rattle.network.proofs.Solving.{led_one, all_told}
+use Rattle.network.proofs.Solving.{all_told}
 use Rattle.network.proofs.Seen.{seen}
 use Rattle.calls.specs.declared.tables.Tables.{Tables}
 use Rattle.calls.specs.Fits.{Fits}
 use Rattle.calls.specs.Follow.{Promised}
 use Rattle.calls.proofs.Setting.{fits, ticket_below}
 use Rattle.calls.proofs.Offers.{own_ticket}
+use Rattle.calls.proofs.Showing.{invariant}
 use Rattle.text.specs.Texts.{Field, written, text}
 use Rattle.writer.specs.declared.writer.Writer.{Writer}
 use Rattle.writer.specs.Listings.{beyond, Appends}
@@ -39,7 +41,7 @@ use Rattle.runner.specs.Tallies.{Small, Tallied}
 use Rattle.runner.specs.Progress.{Aimed, Narrow, most_bytes, Calls, At}
 use Rattle.network.proofs.Counting.{Few, few}
 use Rattle.runner.proofs.Events.{sums_append, ins_told, outs_told, Alike, alike, moves, small_told}
-use Rattle.runner.proofs.Pages.{text_short, page_room, page_more, page_line}
+use Rattle.runner.proofs.Pages.{text_short, room_beyond, lines_more, line_more}
 
 -- a call that kept its promise
 pub record Moved (F : Fabric) (P : Settings) (j : Tables) (s : State) (k : Call) (o : Outcome) : Type 0 where
@@ -108,7 +110,7 @@ module _ (F : Fabric) (P : Settings) (law : Lawful F.plan) {M : List ℕ} {i : T
   led = subst (λ (Q : Settings). Leads F Q a.calls.run s) a.calls.settings a.calls.follows.leads
 
   pub kept_inv : Inv F P s 0
-  kept_inv = subst (λ (x : State). Inv F P x 0) (sym (led_one F P law led)) (invariant F P law a.calls.run)
+  kept_inv = invariant F P law s (a.calls.run, led)
 
   pub most_tickets : all_tickets F.plan P ≤ 512
   most_tickets = ticket_below F law P sizes.few
@@ -120,7 +122,7 @@ module _ (F : Fabric) (P : Settings) (law : Lawful F.plan) {M : List ℕ} {i : T
   lines_few = most_few a.spent.declined happens (omega (arith, a.spent.packets, a.spent.few))
 
   pub room_left : 9216 ≤ length (beyond w)
-  room_left = omega (arith, page_room a.spent.page, lines_few)
+  room_left = omega (arith, room_beyond a.spent.long a.spent.holds, lines_few)
 
   -- the counts stay small
   pub record TallyFew : Type 0 where
@@ -167,26 +169,34 @@ module _ (F : Fabric) (P : Settings) (law : Lawful F.plan) {M : List ℕ} {i : T
       let ex = own_exists n m d ws (offer_did (moved p).serves).0 in
       own_ticket F.plan law P sizes.few n m ex.0 ex.1
 
+  -- what an offer brings, by its verdict
+  pub record AfterOffer (j : Tables) (n m d : ℕ) (ws : List ℕ) (v : Verdict (Unit {0})) (aims' : List (Option ℕ)) (w' : Writer) (ls' : List (List Field)) : Type 0 where
+    pub state : State
+    pub serves : Serves F P s (offer n m d ws) (offering v) state
+    pub counted : state.cycles ≡ s.cycles
+    pub at : At F P M j aims' t w' state ls' es (o + 1)
+
   pub offered_at : {j : Tables} (n m d : ℕ) (ws : List ℕ) → Promised F i j (offer n m d ws) (offering (granted tt)) → o < 256 → length ws ≤ 4 → AllByRecursion (λ v. v < 2 ^ 32) ws →
-      (r : State) × Serves F P s (offer n m d ws) (offering (granted tt)) r × (r.cycles ≡ s.cycles) × At F P M j (set aims (n * P.tickets + m) (Some d)) t w r ls es (o + 1)
+      AfterOffer j n m d ws (granted tt) (set aims (n * P.tickets + m) (Some d)) w ls
   offered_at {j} n m d ws p h short narrow =
       let y = moved p in
       let e = offer_did y.serves in
       let u = n * P.tickets + m in
-      let below : u < 512 = own_below n m d ws p in (
-        _,
-        subst (λ (r : State). Serves F P s (offer n m d ws) (offering (granted tt)) r) e.1 y.serves,
-        refl,
-        record {
+      let below : u < 512 = own_below n m d ws p in
+      record {
+        state = _;
+        serves = subst (λ (r : State). Serves F P s (offer n m d ws) (offering (granted tt)) r) e.1 y.serves;
+        counted = refl;
+        at = record {
           calls = subst (λ (r : State). Calls F P j r) e.1 y.calls;
           aimed = aimed_offer u d ws below;
           places = length-set aims u (Some d) ∙ a.places;
           events = a.events;
           narrow = (short, narrow, a.narrow);
           tallied = a.tallied;
-          spent = record { declined = a.spent.declined; packets = let x = a.spent.packets in omega arith; few = omega arith; page = a.spent.page };
-        },
-      )
+          spent = record { declined = a.spent.declined; packets = let x = a.spent.packets in omega arith; few = omega arith; long = a.spent.long; holds = a.spent.holds };
+        };
+      }
 
   declined_same : {n m d k : ℕ} {ws vs : List ℕ} {r : State} → Serves F P s (offer n m d ws) (offering (refused k vs)) r → r ≡ s
   declined_same (offer_refused e) = refl
@@ -194,14 +204,15 @@ module _ (F : Fabric) (P : Settings) (law : Lawful F.plan) {M : List ℕ} {i : T
   -- a line of a refused packet
   pub declined_at : {j : Tables} {w' : Writer} (n m d k : ℕ) (ws vs : List ℕ) (line : List Field) → Promised F i j (offer n m d ws) (offering (refused k vs)) → o < 256 →
       length (written line) ≤ 60 → Appends w (written line) w' →
-      (r : State) × Serves F P s (offer n m d ws) (offering (refused k vs)) r × (r.cycles ≡ s.cycles) × At F P M j aims t w' r (ls ++ line ∷ []) es (o + 1)
+      AfterOffer j n m d ws (refused k vs) aims w' (ls ++ line ∷ [])
   declined_at {j} {w'} n m d k ws vs line p h short app =
       let y = moved p in
-      let e = declined_same y.serves in (
-        s,
-        subst (λ (r : State). Serves F P s (offer n m d ws) (offering (refused k vs)) r) e y.serves,
-        refl,
-        record {
+      let e = declined_same y.serves in
+      record {
+        state = s;
+        serves = subst (λ (r : State). Serves F P s (offer n m d ws) (offering (refused k vs)) r) e y.serves;
+        counted = refl;
+        at = record {
           calls = subst (λ (r : State). Calls F P j r) e y.calls;
           aimed = a.aimed;
           places = a.places;
@@ -212,10 +223,11 @@ module _ (F : Fabric) (P : Settings) (law : Lawful F.plan) {M : List ℕ} {i : T
             declined = a.spent.declined + 1;
             packets = let z = a.spent.packets in omega arith;
             few = omega arith;
-            page = page_line line a.spent.page (omega arith) app;
+            long = a.spent.long;
+            holds = line_more ls line a.spent.holds (omega arith) app;
           };
-        },
-      )
+        };
+      }
 
   -- the lines of a cycle's events
   record Did (r : State) (fresh : List Event) : Type 0 where
@@ -224,28 +236,17 @@ module _ (F : Fabric) (P : Settings) (law : Lawful F.plan) {M : List ℕ} {i : T
     alike : Alike r.log s.log
     small : AllByRecursion Small fresh
 
-  cycle_parts : {q q' : Queue Event} {k : ℕ} {r : State} → s.cycles < 65536 → (v : Serves F P s (cycle q) (cycling (granted k) q') r) →
-      (r.cycles ≡ s.cycles + 1) × (Alike r.log s.log × AllByRecursion Small (puts v))
-  cycle_parts h (cycle_granted e c) = (
-    c.counted,
-    (
-      subst (λ (l : Log). Alike l s.log) (sym c.logged) (alike (happened c) s.log (moves s.cycles c.work F.plan.nodes)),
-      small_told F P s kept_inv law.few_nodes most_tickets sizes.short h c,
-    ),
-  )
-
   cycle_did : {q q' : Queue Event} {k : ℕ} {r : State} → s.cycles < 65536 → (v : Serves F P s (cycle q) (cycling (granted k) q') r) → Did r (puts v)
-  cycle_did h v =
-      let x = cycle_parts h v in
+  cycle_did {q} h (cycle_granted e c) =
       record {
-        counted = x.0;
-        told = sym (all_told F P (one_more led v)) ∙ ap (λ (y : List Event). y ++ puts v) (all_told F P led ∙ a.events);
-        alike = x.1.0;
-        small = x.1.1;
+        counted = c.counted;
+        told = sym (all_told F P (one_more led (cycle_granted {q = q} e c))) ∙ ap (λ (y : List Event). y ++ puts (cycle_granted {q = q} e c)) (all_told F P led ∙ a.events);
+        alike = subst (λ (l : Log). Alike l s.log) (sym c.logged) (alike (happened c) s.log (moves s.cycles c.work F.plan.nodes));
+        small = small_told F P s kept_inv law.few_nodes most_tickets sizes.short h c;
       }
 
   -- what a cycle that was granted brings
-  pub record Cycled (j : Tables) (q q' : Queue Event) (k : ℕ) : Type 0 where
+  pub record CarriedOut (j : Tables) (q q' : Queue Event) (k : ℕ) : Type 0 where
     pub state : State
     pub serves : Serves F P s (cycle q) (cycling (granted k) q') state
     pub counted : state.cycles ≡ s.cycles + 1
@@ -257,8 +258,8 @@ module _ (F : Fabric) (P : Settings) (law : Lawful F.plan) {M : List ℕ} {i : T
     pub then : {t' : Tally} {w' : Writer} → Tallied t' (es ++ puts serves) → Appends w (text (map line_of (puts serves))) w' →
         At F P M j aims t' w' state (ls ++ map line_of (puts serves)) (es ++ puts serves) o
 
-  pub cycled_at : {j : Tables} {q q' : Queue Event} {k : ℕ} → s.cycles < 65536 → Sound q → contents q ≡ [] → Promised F i j (cycle q) (cycling (granted k) q') → Cycled j q q' k
-  cycled_at {j} {q} {q'} {k} h sound none p =
+  pub carried_out_at : {j : Tables} {q q' : Queue Event} {k : ℕ} → s.cycles < 65536 → Sound q → contents q ≡ [] → Promised F i j (cycle q) (cycling (granted k) q') → CarriedOut j q q' k
+  carried_out_at {j} {q} {q'} {k} h sound none p =
       record {
         state = y.state;
         serves = y.serves;
@@ -276,7 +277,7 @@ module _ (F : Fabric) (P : Settings) (law : Lawful F.plan) {M : List ℕ} {i : T
               events = d.told;
               narrow = d.alike.narrow a.narrow;
               tallied = tally;
-              spent = record { declined = a.spent.declined; packets = packets; few = a.spent.few; page = page_more lines a.spent.page longer app };
+              spent = record { declined = a.spent.declined; packets = packets; few = a.spent.few; long = a.spent.long; holds = lines_more ls lines a.spent.holds longer app };
             };
       }
     where
@@ -296,10 +297,10 @@ module _ (F : Fabric) (P : Settings) (law : Lawful F.plan) {M : List ℕ} {i : T
       after = few F P law accepts (subst (λ (Q : Settings). Leads F Q y.calls.run y.state) y.calls.settings y.calls.follows.leads)
 
       e1 : entries y.state.log ≡ ins es + ins fresh
-      e1 = sym (ins_told y.state.log) ∙ ap ins d.told ∙ (sums_append es fresh).0
+      e1 = sym (ins_told y.state.log) ∙ ap ins d.told ∙ (sums_append es fresh).ins
 
       e2 : count_off y.state.log ≡ outs es + outs fresh
-      e2 = sym (outs_told y.state.log) ∙ ap outs d.told ∙ (sums_append es fresh).1
+      e2 = sym (outs_told y.state.log) ∙ ap outs d.told ∙ (sums_append es fresh).outs
 
       e3 : entries s.log ≡ ins es
       e3 = sym (ins_told s.log) ∙ ap ins a.events
@@ -317,7 +318,7 @@ module _ (F : Fabric) (P : Settings) (law : Lawful F.plan) {M : List ℕ} {i : T
       longer = omega (arith, e1, e2, e3, e4, short, d.alike.collections)
 
       room : length (text lines) ≤ length (beyond w)
-      room = omega (arith, page_room a.spent.page, longer, most_few a.spent.declined after (omega (arith, packets, a.spent.few)))
+      room = omega (arith, room_beyond a.spent.long a.spent.holds, longer, most_few a.spent.declined after (omega (arith, packets, a.spent.few)))
 
       few_packets : offers y.state.log ≤ 256
       few_packets = omega (arith, packets, a.spent.few)
@@ -403,7 +404,7 @@ module _ (F : Fabric) (P : Settings) (law : Lawful F.plan) {M : List ℕ} {i : T
               events = a.events;
               narrow = a.narrow;
               tallied = a.tallied;
-              spent = record { declined = a.spent.declined; packets = a.spent.packets; few = a.spent.few; page = page_line line a.spent.page (omega arith) app };
+              spent = record { declined = a.spent.declined; packets = a.spent.packets; few = a.spent.few; long = a.spent.long; holds = line_more ls line a.spent.holds (omega arith) app };
             };
       }
     where

@@ -63,9 +63,9 @@ told_more : {t u v : Tally} {w x y : Writer} (a b : List Event) → Told t w a u
 told_more {t} {u} {v} {w} {x} {y} a b m n =
     record {
       counts = record {
-        entered = let c = m.counts.entered in let d = n.counts.entered in let e = (sums_append a b).0 in omega arith;
-        off = let c = m.counts.off in let d = n.counts.off in let e = (sums_append a b).1 in omega arith;
-        waited = let c = m.counts.waited in let d = n.counts.waited in let e = (sums_append a b).2 in omega arith;
+        entered = let c = m.counts.entered in let d = n.counts.entered in let e = (sums_append a b).ins in omega arith;
+        off = let c = m.counts.off in let d = n.counts.off in let e = (sums_append a b).outs in omega arith;
+        waited = let c = m.counts.waited in let d = n.counts.waited in let e = (sums_append a b).under_way in omega arith;
       };
       appends = subst (λ (z : List ℕ). Appends w z y) (sym (text_both a b)) (appends_both w x y (text (map line_of a)) (text (map line_of b)) m.appends n.appends);
       waited = n.waited;

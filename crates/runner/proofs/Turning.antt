@@ -17,7 +17,7 @@ use Rattle.runner.specs.Listing.{line_of, Collects, Turns}
 use Rattle.runner.specs.Listing.Offers.{none as none_offered}
 use Rattle.runner.specs.Listing.Collects.{none as none_collected}
 use Rattle.runner.specs.Listing.Turns.{begun, one_more}
-use Rattle.runner.specs.Progress.{Stands, Offered, DueFrom, Due, Left, Cycled, Tried, CollectedFrom, Collected, TurnedFrom, Turned, Through}
+use Rattle.runner.specs.Progress.{Stands, Offered, DueFrom, Due, Left, Cycled, Tried, CollectedFrom, Collected, TurnedFrom, Turned}
 
 -- the packets that are left
 pub left_due : (c : ℕ) (p : Packet) (rest : List Packet) → p.cycle ≡ c → Left c (p ∷ rest) → Left c rest
@@ -116,6 +116,17 @@ module _ {A B : Type 0} (F : Fabric) (P : Settings) (c : ℕ) {M : List ℕ} {s 
 rising_later : (c k : ℕ) (ps : List Packet) → c < k → Rising k ps → AllByRecursion (λ p. c < p.cycle) ps
 rising_later c k [] h r = tt
 rising_later c k (p ∷ ps) h r = (let e = r.0 in omega arith, rising_later c p.cycle ps (let e = r.0 in omega arith) r.1)
+
+-- some cycles of the run are carried out
+pub record Through {A B : Type 0} (F : Fabric) (P : Settings) (M : List ℕ) (ps : List Packet) (c : ℕ) (later : List Packet) (x : Session A B) (w : Writer) : Type 0 where
+  pub state : State
+  pub lines : List (List Field)
+  pub events : List Event
+  pub packets : ℕ
+  pub turns : Turns F P ps c later state lines events
+  pub now : state.cycles ≡ c
+  pub room : packets + length later ≤ 256
+  pub stands : Stands F P M x w state lines events packets
 
 module _ {A B : Type 0} (F : Fabric) (P : Settings) (M : List ℕ) (ps : List Packet) where
   pub through_none : {x : Session A B} {w : Writer} → Stands F P M x w fresh [] [] 0 → length ps ≤ 256 → Through F P M ps 0 ps x w

@@ -46,6 +46,10 @@ Listing text bs =
     ((s : Said) × SheetText text s × ((r : Report Plan) × Judged s.shape s.cables s.run r × ListsSheet s r bs))
     ⊎ ((f : Fault) × Refused text f × (bs ≡ written (fault_fields (told f))))
 
+-- the bytes have one listing, whatever lines of events the cycles of their run are called with
+pub record OneListing (text : List ℕ) : Type 0 where
+  pub listing : (bs bs' : List ℕ) → Listing text bs → Listing text bs' → bs ≡ bs'
+
 -- the listing is written at the start of a memory of 65,536 bytes or more, which suffice for each, and the rest of the memory stays; none is empty;
 -- a shorter memory is refused by 9, and stays
 pub data WrittenOut (text memory : List ℕ) : Verdict ℕ → List ℕ → Type 0 where
@@ -63,15 +67,16 @@ pub record Blank (w : Writer) : Type 0 where
 abbrev pub Runnable : Sheet → Writer → Type 0
 Runnable s w = Formed 128 256 (said s) × Blank w
 
--- these bytes are written
-pub record Holds (w : Writer) (bs : List ℕ) (v : Writer) : Type 0 where
-  pub written : listed v ≡ bs
-  pub rest : beyond v ≡ drop (length bs) (beyond w)
-  pub few : length bs ≤ 65536
+-- these bytes, b at most, are written at the start of the memory M
+pub record Holds (M : List ℕ) (w : Writer) (bs : List ℕ) (b : ℕ) : Type 0 where
+  pub written : listed w ≡ bs
+  -- what lies beyond them is as it was
+  pub rest : beyond w ≡ drop (length bs) M
+  pub few : length bs ≤ b
 
 -- the run of a sheet in a network of this fabric, if set-up accepts its settings
 abbrev pub Ran : Fabric → Said → Writer → Writer → Verdict (Unit {0}) → Type 0
-Ran F s w v (granted tt) = (set_up_verdict F.plan (settings_of s.run) ≡ granted tt) × ((bs : List ℕ) × Lists F (settings_of s.run) s.packets s.run.cycles bs × Holds w bs v)
+Ran F s w v (granted tt) = (set_up_verdict F.plan (settings_of s.run) ≡ granted tt) × ((bs : List ℕ) × Lists F (settings_of s.run) s.packets s.run.cycles bs × Holds (beyond w) v bs 65536)
 Ran F s w v (refused k vs) = (set_up_verdict F.plan (settings_of s.run) ≡ refused k vs) × (v ≡ w)
 
 -- the same, with the fault of settings that are refused
@@ -86,5 +91,5 @@ Faulted text f = ((s : Said) × SheetText text s × Judged s.shape s.cables s.ru
 -- what bytes are answered
 abbrev pub Carried : List ℕ → Writer → Writer → Result (Unit {0}) Fault → Type 0
 Carried text w v r =
-    MatchResult r (λ _. (s : Said) × SheetText text s × ((p : Plan) × Judged s.shape s.cables s.run (answers p) × ((bs : List ℕ) × ListsSheet s (answers p) bs × Holds w bs v)))
+    MatchResult r (λ _. (s : Said) × SheetText text s × ((p : Plan) × Judged s.shape s.cables s.run (answers p) × ((bs : List ℕ) × ListsSheet s (answers p) bs × Holds (beyond w) v bs 65536)))
     (λ f. Faulted text f × (v ≡ w))

@@ -1,5 +1,4 @@
 pub mod Answering
 pub mod Listing
-pub mod Only
 pub mod Progress
 pub mod Tallies

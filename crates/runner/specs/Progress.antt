@@ -1,5 +1,5 @@
 -- How far the run of a sheet has come, between its calls.
-use Rattle.std.specs.Prelude.{◌≡◌, ℕ, ◌+◌, ◌*◌, ◌^◌, ◌<◌, ◌≤◌, cond, List, [], ◌∷◌, ◌++◌, map, length, drop, Some, None, Option, slice_index_or}
+use Rattle.std.specs.Prelude.{◌≡◌, ℕ, ◌+◌, ◌*◌, ◌^◌, ◌<◌, ◌≤◌, cond, List, [], ◌∷◌, ◌++◌, map, length, Some, None, Option, slice_index_or}
 use Rattle.std.specs.List.{AllByRecursion}
 use Rattle.fabric.specs.Verdicts.Verdict.{granted}
 use Rattle.line.specs.Queues.{Queue}
@@ -21,36 +21,29 @@ use Rattle.text.specs.Texts.{Field, Fits, text}
 use Rattle.text.specs.Lines.{Sized, packet_line}
 use Rattle.runsheet.specs.Sheets.{Rising}
 use Rattle.writer.specs.declared.writer.Writer.{Writer}
-use Rattle.writer.specs.Listings.{listed, beyond}
 use Rattle.runner.specs.declared.tally.Tally.{Tally}
 use Rattle.runner.specs.declared.session.Session.{Session}
 use Rattle.runner.specs.declared.planned.Planned.{Planned}
 use Rattle.network.specs.Counts.{offers, entries, collections}
-use Rattle.runner.specs.Listing.{Offers, Collects, Turn, Turns, Lists, line_of}
+use Rattle.runner.specs.Listing.{Offers, Collects, Turn, Lists, line_of}
 use Rattle.runner.specs.Tallies.{Tallied}
+use Rattle.runner.specs.Answering.{Holds}
 
 -- where the packet of each ticket that is not free goes
 abbrev pub Aimed : ℕ → List (Option ℕ) → Log → Type 0
 Aimed G aims l = (t : ℕ) → t < G → slice_index_or aims t None ≡ cond (free t l) None (Some (aim (packet t l)))
 
--- these lines, of b bytes at most, are written at the start of the memory M, which is long enough for every listing
-pub record Page (M : List ℕ) (w : Writer) (ls : List (List Field)) (b : ℕ) : Type 0 where
-  pub written : listed w ≡ text ls
-  -- what lies beyond them is as it was
-  pub rest : beyond w ≡ drop (length (text ls)) M
-  pub long : 65536 ≤ length M
-  pub bytes : length (text ls) ≤ b
-
 -- what happened, with k packets refused, has lines of no more bytes
 abbrev pub most_bytes : ℕ → Log → ℕ
 most_bytes k l = 60 * k + (20 * entries l + (20 * count_off l + 60 * collections l))
 
--- these lines are written of what happened when o packets were offered, of which some were refused
+-- these lines are written of what happened when o packets were offered, of which some were refused, in a memory that is long enough for every listing
 pub record Spent (M : List ℕ) (w : Writer) (ls : List (List Field)) (l : Log) (o : ℕ) : Type 0 where
   pub declined : ℕ
   pub packets : declined + offers l ≡ o
   pub few : o ≤ 256
-  pub page : Page M w ls (most_bytes declined l)
+  pub long : 65536 ≤ length M
+  pub holds : Holds M w (text ls) (most_bytes declined l)
 
 -- each packet that was accepted has at most four words, of 32 bits
 abbrev pub Narrow : Log → Type 0
@@ -129,13 +122,17 @@ NoneDue c (p ∷ ps) = p.cycle ≡ c → ⊥
 abbrev pub SamePlaces : Planned → Planned → Type 0
 SamePlaces p q = q.rest.memory.ghost_name ≡ p.rest.memory.ghost_name
 
+-- the packets that come yet can be offered in cycle c and later
+pub record Left (c : ℕ) (later : List Packet) : Type 0 where
+  pub rising : Rising c later
+  pub sendable : AllByRecursion Sendable later
+
 -- a session under way before cycle c, with packets that come yet
 pub record Ready {A B : Type 0} (F : Fabric) (c : ℕ) (coming : List Packet) (x : Session A B) (w : Writer) : Type 0 where
   pub going : Going F x w
   pub now : going.state.cycles ≡ c
   pub room : going.packets + length coming ≤ 256
-  pub rising : Rising c coming
-  pub sendable : AllByRecursion Sendable coming
+  pub left : Left c coming
 
 -- the packets due in cycle c were offered
 pub record DueFrom {A B : Type 0} (F : Fabric) (P : Settings) (M : List ℕ) (c : ℕ) (coming later : List Packet) (y : Session A B) (v : Writer) (s : State) (ls : List (List Field)) (es : List Event) (o : ℕ) : Type 0 where
@@ -150,11 +147,6 @@ pub record DueFrom {A B : Type 0} (F : Fabric) (P : Settings) (M : List ℕ) (c 
 
 abbrev pub Due : {A B : Type 0} → Fabric → ℕ → List Packet → List Packet → Session A B → Writer → Session A B → Writer → Type 0
 Due F c coming later x w y v = Wherever F x w (λ P M s ls es o. o + length coming ≤ 256 → DueFrom F P M c coming later y v s ls es o)
-
--- the packets that are left can be offered in later cycles
-pub record Left (c : ℕ) (later : List Packet) : Type 0 where
-  pub rising : Rising c later
-  pub sendable : AllByRecursion Sendable later
 
 -- a cycle was carried out
 pub record CycledFrom {A B : Type 0} (F : Fabric) (P : Settings) (M : List ℕ) (y : Session A B) (v : Writer) (s : State) (ls : List (List Field)) (es : List Event) (o : ℕ) : Type 0 where
@@ -219,24 +211,11 @@ pub record Begun {A B : Type 0} (F : Fabric) (cycles : ℕ) (ps : List Packet) (
   pub left : Left 0 ps
   pub short : cycles ≤ 65535
 
--- some cycles of the run are carried out
-pub record Through {A B : Type 0} (F : Fabric) (P : Settings) (M : List ℕ) (ps : List Packet) (c : ℕ) (later : List Packet) (x : Session A B) (w : Writer) : Type 0 where
-  pub state : State
-  pub lines : List (List Field)
-  pub events : List Event
-  pub packets : ℕ
-  pub turns : Turns F P ps c later state lines events
-  pub now : state.cycles ≡ c
-  pub room : packets + length later ≤ 256
-  pub stands : Stands F P M x w state lines events packets
-
 -- the whole run is carried out, and its listing is written
 pub record PlayedFrom (F : Fabric) (P : Settings) (M : List ℕ) (cycles : ℕ) (ps : List Packet) (v : Writer) : Type 0 where
   pub out : List ℕ
   pub lists : Lists F P ps cycles out
-  pub written : listed v ≡ out
-  pub rest : beyond v ≡ drop (length out) M
-  pub short : length out ≤ 65536
+  pub holds : Holds M v out 65536
 
 abbrev pub Played : {A B : Type 0} → Fabric → ℕ → List Packet → Session A B → Writer → Writer → Type 0
 Played F cycles ps x w v = (P : Settings) (M : List ℕ) → Stands F P M x w fresh [] [] 0 → PlayedFrom F P M cycles ps v

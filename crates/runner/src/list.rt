@@ -2,8 +2,7 @@
 ghost use Rattle.fabric.specs.Refusals.{shown};
 ghost use Rattle.runsheet.specs.Said.{said};
 ghost use Rattle.writer.specs.Listings.{SameLender};
-ghost use Rattle.runner.specs.Answering.{made_of, network_of, WrittenOut, Blank, Runnable, Ran, Ended, Carried};
-ghost use Rattle.runner.specs.Only.{OneListing};
+ghost use Rattle.runner.specs.Answering.{made_of, network_of, OneListing, WrittenOut, Blank, Runnable, Ran, Ended, Carried};
 
 use super::planned::Planned;
 use super::session::{Session, TICKETS};
@@ -24,8 +23,8 @@ use writer::Writer;
 // No listing is longer; a shorter memory is refused.
 pub const MEMORY: usize = 65536;
 
-// The sheet's run in a network of this layout and this switch.
-fn start<L: Layout + Drop, S: Switch + Drop>(
+// Sets up a network of this layout and this switch, and carries out the sheet's run in it.
+fn set_up_and_play<L: Layout + Drop, S: Switch + Drop>(
     layout: L,
     switch: S,
     sheet: &Sheet,
@@ -51,6 +50,7 @@ fn start<L: Layout + Drop, S: Switch + Drop>(
     session.play(sheet.run.cycles, &mut planned, writer)
 }
 
+// The same, with a refusal as a fault at the run's line. A function of its own: each `?` there passes on a refusal as it is.
 fn run<L: Layout + Drop, S: Switch + Drop>(
     layout: L,
     switch: S,
@@ -61,7 +61,7 @@ fn run<L: Layout + Drop, S: Switch + Drop>(
     ensures ended { Ended (made_of (L.plan layout) (S.turn switch)) (said sheet.now) writer.old writer.new result }
     ensures lender { SameLender writer.old writer.new }
 {
-    start(layout, switch, sheet, writer).map_err(at_run_line)
+    set_up_and_play(layout, switch, sheet, writer).map_err(at_run_line)
 }
 
 // The sheet's run on this layout, with the sheet's kind of switch.
@@ -95,9 +95,10 @@ fn carry_out(bytes: &[u8], writer: &mut Writer) -> Result<(), Fault>
 }
 
 // Writes the listing of any bytes at the start of the memory, and answers its length.
+#[tactic(auto, using(crate::proofs::Only::one_listing))]
 pub fn list(sheet: &[u8], memory: &mut [u8]) -> Result<usize, Refusal>
     ensures out { WrittenOut sheet.now memory.old (shown result) memory.new }
-    ensures only { OneListing }
+    ensures only { OneListing sheet.now }
 {
     if memory.len() < MEMORY {
         return Err(Refusal::Memory);

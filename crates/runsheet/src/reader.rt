@@ -180,6 +180,7 @@ impl Reader {
 }
 
 // Reads a whole sheet.
+#[tactic(auto, using(crate::proofs::Single::one_sheet))]
 pub fn read(bytes: &[u8]) -> Result<Sheet, Fault>
     ensures read { MatchResult result (λ s. SheetText bytes.now (said s)) (λ f. Refused bytes.now f) }
     ensures only { OneSheet bytes.now }

@@ -1,10 +1,9 @@
-use Rattle.std.proofs.Common.{ℕ, refl, ap, ◌∙◌}
-use Rattle.fabric.specs.Refusals.{number, numbered}
+use Rattle.std.proofs.Common.{ℕ, refl, ap}
+use Rattle.fabric.specs.Refusals.{number}
 use Rattle.cabled.specs.Plans.{lawful_of}
 use Rattle.text.specs.declared.fault.Layer.TheVariants.{Layout}
-use Rattle.laying.specs.Layings.{layout_line}
 use Rattle.laying.specs.Reports.Report.{faults}
-use Rattle.laying.proofs.Laying.{as_plans, named_below}
+use Rattle.laying.proofs.Laying.{as_plans, refused_alone, named_below}
 use Rattle.laying.proofs.lay_cables.Goals as goal
 
 pub line_of-requires : goal.line_of-requires
@@ -23,4 +22,4 @@ returns-in-Err-clause-laid c = (
 )
 
 pub returns-in-Err-clause-named : goal.returns-in-Err-clause-named
-returns-in-Err-clause-named c = λ i e. c.line_of.ensures ∙ ap (λ r. layout_line (numbered r).0 (numbered r).1) e
+returns-in-Err-clause-named c = refused_alone c.in-Err.ensures

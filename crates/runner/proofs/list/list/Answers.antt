@@ -5,12 +5,11 @@ use Rattle.writer.specs.Listings.{listed, SameLender}
 use Rattle.runner.specs.Answering.{WrittenOut}
 use Rattle.runner.specs.Answering.WrittenOut.{short}
 use Rattle.runner.proofs.Listing.{ran_through, no_room, fault_out}
-use Rattle.runner.proofs.Only.{one_listing}
 use Rattle.runner.proofs.list.list.Goals as goal
 use Rattle.runner.proofs.list.list.Goals.{in-Err+in_ok-fault, in_default}
 
-pub returns-then-memory-lt-MEMORY : goal.returns-then-memory-lt-MEMORY
-returns-then-memory-lt-MEMORY c = record { out = short c.if-memory-lt-MEMORY.true; only = one_listing }
+pub returns-then-memory-lt-MEMORY-clause-out : goal.returns-then-memory-lt-MEMORY-clause-out
+returns-then-memory-lt-MEMORY-clause-out c = short c.if-memory-lt-MEMORY.true
 
 pub returns-in_err-fault : goal.returns-in_err-fault
 returns-in_err-fault c =
@@ -22,9 +21,6 @@ returns-in_err-fault c =
 -- at the end of either way
 moved : (w : Writer) {text memory : List ℕ} {n : ℕ} {v u : Writer} → v ≡ u → SameLender w u → WrittenOut text memory (granted n) u.memory.now → SameLender w v × WrittenOut text memory (granted n) v.memory.now
 moved w {text} {memory} {n} e a b = subst (λ (x : Writer). SameLender w x × WrittenOut text memory (granted n) x.memory.now) (sym e) (a, b)
-
-pub returns-clause-only : goal.returns-clause-only
-returns-clause-only c = one_listing
 
 pub returns-clause-out : goal.returns-clause-out
 returns-clause-out c =

@@ -8,7 +8,6 @@ use Rattle.runsheet.specs.Reading.{draft, entry_line, lines_read, Refuses}
 use Rattle.text.proofs.Exits.{err_at}
 use Rattle.text.proofs.Stopping.{is_line, onward}
 use Rattle.runsheet.proofs.Stopped.{refused, unended, missing, finished}
-use Rattle.runsheet.proofs.Single.{one_sheet}
 use Rattle.runsheet.proofs.reader.read.Goals as goal
 
 pub returns-in_err-next_line-clause-read : goal.returns-in_err-next_line-clause-read
@@ -48,18 +47,3 @@ pub returns-in-End-clause-read : goal.returns-in-End-clause-read
 returns-in-End-clause-read c =
     let i = c.loop-reader.invariant in
     finished (draft c.loop-reader.reader) c.args.bytes.now c.loop-reader.lines.rest.now _ i.0 i.1 c.in-End.is (c.is_empty.ensures.0 c.loop-reader-test.false) c.in_ok-lines.ensures.0 refl
-
-pub returns-in_err-lines-clause-only : goal.returns-in_err-lines-clause-only
-returns-in_err-lines-clause-only c = one_sheet c.args.bytes.now
-
-pub returns-in_err-next_line-clause-only : goal.returns-in_err-next_line-clause-only
-returns-in_err-next_line-clause-only c = one_sheet c.args.bytes.now
-
-pub returns-in_err-step-clause-only : goal.returns-in_err-step-clause-only
-returns-in_err-step-clause-only c = one_sheet c.args.bytes.now
-
-pub returns-in_default-clause-only : goal.returns-in_default-clause-only
-returns-in_default-clause-only c = one_sheet c.args.bytes.now
-
-pub returns-in-End-clause-only : goal.returns-in-End-clause-only
-returns-in-End-clause-only c = one_sheet c.args.bytes.now

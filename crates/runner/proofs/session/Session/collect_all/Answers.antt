@@ -10,17 +10,17 @@ pub loop-ticket-init : goal.loop-ticket-init
 loop-ticket-init g c =
     let n = c.args.self.now.network in
     let F = fabric_of g.L.Layout.plan g.S.Switch.turn n in
-    (λ P M s ls es o st. collected_none F P c.args.cycle st, (refl, refl), refl)
+    record { collected = λ P M s ls es o st. collected_none F P c.args.cycle st; parts = (refl, refl); lender = refl }
 
 pub collect-requires : goal.collect-requires
 collect-requires g c =
     let l = c.loop-ticket in
     let i = l.invariant in
     let x = c.requires.going in
-    let k = i.0 x.settings x.memory x.state x.lines x.events x.packets x.stands in
+    let k = i.collected x.settings x.memory x.state x.lines x.events x.packets x.stands in
     record {
       going =
-          subst (λ (F : Fabric). Going F l.self l.writer) (sym (same_fabric g.L.Layout.plan g.S.Switch.turn i.1))
+          subst (λ (F : Fabric). Going F l.self l.writer) (sym (same_fabric g.L.Layout.plan g.S.Switch.turn i.parts))
           (record { settings = x.settings; memory = x.memory; state = k.state; lines = _; events = x.events; packets = x.packets; stands = k.stands });
       numbers = (
         c.requires.numbers,
@@ -37,11 +37,12 @@ loop-ticket-preserved g c =
     let e = c.in_ok-collect.ensures in
     let t =
     subst (λ (F : Fabric). Tried F c.args.cycle l.ticket l.self l.writer c.collect.new.self c.collect.new.writer)
-    (same_fabric g.L.Layout.plan g.S.Switch.turn i.1) e.tried.1 in (
-      λ P M s ls es o st. collected_more F P c.args.cycle l.ticket (i.0 P M s ls es o st) t,
-      then_same i.1 e.parts,
-      e.lender ∙ i.2,
-    )
+    (same_fabric g.L.Layout.plan g.S.Switch.turn i.parts) e.tried.1 in
+    record {
+      collected = λ P M s ls es o st. collected_more F P c.args.cycle l.ticket (i.collected P M s ls es o st) t;
+      parts = then_same i.parts e.parts;
+      lender = e.lender ∙ i.lender;
+    }
 
 pub returns-clause-collected : goal.returns-clause-collected
 returns-clause-collected g c =
@@ -51,4 +52,4 @@ returns-clause-collected g c =
     let i = l.invariant in
     let all : l.ticket ≡ c.args.self.now.nodes * c.args.self.now.tickets =
     let a = c.loop-ticket-test.false in let b = l.auto.ticket-end in omega arith in
-    (refl, λ P M s ls es o st. subst (λ (k : ℕ). CollectedFrom F P M c.args.cycle k l.self l.writer s ls es o) all (i.0 P M s ls es o st))
+    (refl, λ P M s ls es o st. subst (λ (k : ℕ). CollectedFrom F P M c.args.cycle k l.self l.writer s ls es o) all (i.collected P M s ls es o st))

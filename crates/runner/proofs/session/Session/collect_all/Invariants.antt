@@ -5,5 +5,8 @@ use Rattle.runner.proofs.session.Session.collect_all.Given as goal
 
 abbrev pub invariant-loop-ticket : goal.invariant-loop-ticket
 invariant-loop-ticket g l =
-    Collected (fabric_of g.L.Layout.plan g.S.Switch.turn l.initial.self.network) l.cycle l.ticket l.initial.self l.initial.writer l.self l.writer
-    × SameParts l.initial.self.network l.self.network × SameLender l.initial.writer l.writer
+    record {
+      collected : Collected (fabric_of g.L.Layout.plan g.S.Switch.turn l.initial.self.network) l.cycle l.ticket l.initial.self l.initial.writer l.self l.writer;
+      parts : SameParts l.initial.self.network l.self.network;
+      lender : SameLender l.initial.writer l.writer;
+    }

@@ -14,29 +14,29 @@ use Rattle.runner.proofs.session.Session.play.Goals as goal
 pub loop-cycle-init : goal.loop-cycle-init
 loop-cycle-init g c =
     let n = c.args.self.now.network in
-    let F = fabric_of g.L.Layout.plan g.S.Switch.turn n in (
-      λ P M st. through_none F P M (coming c.args.planned.now) st c.requires.few,
-      c.requires.left,
-      (refl, refl),
-      refl,
-      refl,
-    )
+    let F = fabric_of g.L.Layout.plan g.S.Switch.turn n in
+    record {
+      through = λ P M st. through_none F P M (coming c.args.planned.now) st c.requires.few;
+      left = c.requires.left;
+      parts = (refl, refl);
+      lender = refl;
+      places = refl;
+    }
 
 pub turn-requires : goal.turn-requires
 turn-requires g c =
     let l = c.loop-cycle in
     let i = l.invariant in
     let x = c.requires in
-    let k = i.0 x.settings x.memory x.stands in
+    let k = i.through x.settings x.memory x.stands in
     record {
       ready =
-          subst (λ (F : Fabric). Ready F l.cycle (coming l.planned) l.self l.writer) (sym (same_fabric g.L.Layout.plan g.S.Switch.turn i.2))
+          subst (λ (F : Fabric). Ready F l.cycle (coming l.planned) l.self l.writer) (sym (same_fabric g.L.Layout.plan g.S.Switch.turn i.parts))
           (record {
             going = record { settings = x.settings; memory = x.memory; state = k.state; lines = k.lines; events = k.events; packets = k.packets; stands = k.stands };
             now = k.now;
             room = k.room;
-            rising = i.1.rising;
-            sendable = i.1.sendable;
+            left = i.left;
           });
       early = let a = c.loop-cycle-test.true in let b = x.short in omega arith;
     }
@@ -49,13 +49,14 @@ loop-cycle-preserved g c =
     let i = l.invariant in
     let e = c.in_ok-turn.ensures in
     let turned =
-    subst (λ (F : Fabric). Turned F l.cycle (coming l.planned) (coming c.turn.new.planned) l.self l.writer c.turn.new.self c.turn.new.writer) (same_fabric g.L.Layout.plan g.S.Switch.turn i.2) e.turned.1 in (
-      λ P M st. through_more F P M (coming c.args.planned.now) l.cycle (coming l.planned) (coming c.turn.new.planned) (i.0 P M st) turned e.left,
-      e.left,
-      then_same i.2 e.parts,
-      e.lender.0 ∙ i.3,
-      e.lender.1 ∙ i.4,
-    )
+    subst (λ (F : Fabric). Turned F l.cycle (coming l.planned) (coming c.turn.new.planned) l.self l.writer c.turn.new.self c.turn.new.writer) (same_fabric g.L.Layout.plan g.S.Switch.turn i.parts) e.turned.1 in
+    record {
+      through = λ P M st. through_more F P M (coming c.args.planned.now) l.cycle (coming l.planned) (coming c.turn.new.planned) (i.through P M st) turned e.left;
+      left = e.left;
+      parts = then_same i.parts e.parts;
+      lender = e.lender.0 ∙ i.lender;
+      places = e.lender.1 ∙ i.places;
+    }
 
 pub mean-requires : goal.mean-requires
 mean-requires g c =
@@ -63,7 +64,7 @@ mean-requires g c =
     let F = fabric_of g.L.Layout.plan g.S.Switch.turn n in
     let l = c.loop-cycle in
     let x = c.requires in
-    let k = l.invariant.0 x.settings x.memory x.stands in
+    let k = l.invariant.through x.settings x.memory x.stands in
     (tally_few F x.settings (g.met.L.Layout.lawful n.layout) k.stands.at).waited
 
 pub returns-clause-played : goal.returns-clause-played
@@ -77,11 +78,10 @@ returns-clause-played g c =
     let t = l.self.tally in
     let last : l.cycle ≡ c.args.cycles = let a = c.loop-cycle-test.false in let b = l.auto.cycle-end in omega arith in
     let out = subst (λ (m : Option ℕ). LineOut l.writer (end_line t.entered t.off m) c.end.new.self (shown c.end.result)) c.mean.ensures c.end.ensures.line in
-    let k = i.0 x.settings x.memory x.stands in (
+    let k = i.through x.settings x.memory x.stands in (
       (ends F x.settings law k.stands c.end.result out).0,
       λ P M st.
-          let h = i.0 P M st in
-          let w = (ends F P law h.stands c.end.result out).1 in
+          let h = i.through P M st in
           record {
             out = _;
             lists = record {
@@ -92,8 +92,6 @@ returns-clause-played g c =
               turns = subst (λ (m : ℕ). Turns F P (coming c.args.planned.now) m (coming l.planned) h.state h.lines h.events) last h.turns;
               bytes = refl;
             };
-            written = w.written;
-            rest = w.rest;
-            short = w.bytes;
+            holds = (ends F P law h.stands c.end.result out).1;
           },
     )

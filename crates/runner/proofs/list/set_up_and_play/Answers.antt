@@ -12,8 +12,8 @@ use Rattle.runner.specs.Tallies.{Tallied}
 use Rattle.runner.specs.Progress.{Left}
 use Rattle.runner.proofs.Beginning.{at_first, all_left, ran}
 use Rattle.calls.proofs.Fabrics.{same_fabric, then_same}
-use Rattle.runner.proofs.list.start.Goals as goal
-use Rattle.runner.proofs.list.start.Goals.{After-play-arg-1}
+use Rattle.runner.proofs.list.set_up_and_play.Goals as goal
+use Rattle.runner.proofs.list.set_up_and_play.Goals.{After-play-arg-1}
 
 pub play-requires : goal.play-requires
 play-requires g c =
@@ -45,4 +45,4 @@ returns-clause-ran g c =
     subst (λ (a : g.row.L.Denot). granted tt ≡ set_up_verdict (g.L.Layout.plan a) c.settings-settings.result) (sym e.parts.0) e.exact in
     let m = c.play.ensures.played in
     subst (λ (r : Result (Unit {0}) Refusal). Ran (made_of (g.L.Layout.plan c.args.layout) (g.S.Switch.turn c.args.switch)) s c.args.writer.now c.play.new.writer (shown r)) (sym m.0)
-    (ran s same c.settings-settings.ensures (c.in_ok-planned.ensures ∙ c.packets.ensures) verdict (m.1 _ _ stands))
+    (ran s c.args.writer.now same c.settings-settings.ensures (c.in_ok-planned.ensures ∙ c.packets.ensures) verdict (m.1 _ _ stands))
