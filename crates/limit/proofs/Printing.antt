@@ -5,20 +5,20 @@ use Rattle.std.proofs.lemmas.List.{take_more, append-nil, map-append}
 use Rattle.std.proofs.lemmas.Grind.{flat_map-append}
 use Rattle.fabric.specs.Ports.{letter}
 use Rattle.bounds.specs.declared.path.Hop.{Hop}
-use Rattle.text.specs.Texts.{Field, word, number, shown}
+use Rattle.text.specs.Texts.{Field, word, number, shown, after_spaces}
 
 abbrev hop_fields : Hop → List Field
 hop_fields h = number h.node ∷ word (letter h.port) ∷ []
 
 -- the bytes of fields, each after a space
 abbrev pub spread : List Field → List ℕ
-spread fs = flat_map (λ v. 32 ∷ v) (map shown fs)
+spread fs = after_spaces (map shown fs)
 
 abbrev pub steps : List Hop → List ℕ
 steps hops = spread (flat_map hop_fields hops)
 
 spread_both : (a b : List Field) → spread (a ++ b) ≡ spread a ++ spread b
-spread_both a b = ap (flat_map (λ v. 32 ∷ v)) (map-append shown a b) ∙ flat_map-append (λ v. 32 ∷ v) (map shown a) (map shown b)
+spread_both a b = ap after_spaces (map-append shown a b) ∙ flat_map-append (λ v. 32 ∷ v) (map shown a) (map shown b)
 
 -- one hop more
 pub one_more : (hops : List Hop) (i : ℕ) (d : Hop) → i < length hops → steps (take i hops) ++ (32 ∷ decimal (get_or hops i d).node ++ 32 ∷ letter (get_or hops i d).port) ≡ steps (take (i + 1) hops)

@@ -4,13 +4,9 @@ use Rattle.std.specs.List.{AllByRecursion}
 use Rattle.std.proofs.lemmas.List.{append-nil, get_or_past, length-append, length-map, length-take-le, get_or_append_left, get_or-map, get_or-take, drop_at, drop_more, nil_from_length}
 use Rattle.std.proofs.Permutation.{every_at}
 use Rattle.std.proofs.lemmas.Fmt.{decimal_injective}
-use Rattle.text.specs.Texts.{Fits, number, shown}
+use Rattle.text.specs.Texts.{Fits, number, shown, figures}
 use Rattle.text.specs.Lines.{packet_line, Blank}
 use Rattle.text.specs.declared.parts.Packet.{Packet}
-
--- the numbers as words
-abbrev pub figures : List ℕ → List (List ℕ)
-figures ns = map shown (map number ns)
 
 pub length_figures : (ns : List ℕ) → length (figures ns) ≡ length ns
 length_figures ns = length-map (map number ns) shown ∙ length-map ns number

@@ -8,12 +8,11 @@ use Rattle.fabric.specs.Ports.{letter}
 use Rattle.fabric.specs.declared.parts.Port.{Port}
 use Rattle.fabric.specs.declared.parts.Port.TheVariants.{N, E, S, W}
 use Rattle.fabric.specs.declared.parts.Slot.{Slot}
-use Rattle.text.specs.Texts.{Field, number, shown, Fits, row, Any}
+use Rattle.text.specs.Texts.{Field, number, shown, Fits, row, figures, Any}
 use Rattle.text.specs.Lines.{shape_line, kind_word, kind_line, run_line, cables_line, cable_line, packets_line, payload, packet_line, Sized}
 use Rattle.text.specs.declared.parts.Shape.TheVariants.{Mesh, Cabled}
 use Rattle.text.specs.declared.parts.SwitchKind.{SwitchKind}
 use Rattle.text.specs.declared.parts.SwitchKind.TheVariants.{Chipper, Bless}
-use Rattle.text.proofs.Figures.{figures}
 use Rattle.text.proofs.Words.{mesh_apart}
 use Rattle.text.proofs.Tidy.{Tidy, same_words}
 

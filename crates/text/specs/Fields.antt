@@ -1,5 +1,6 @@
 -- The fields that are left of a line, and what reading them as a line of some kind answers.
-use Rattle.std.specs.Prelude.{◌≡◌, ℕ, List, [], ◌++◌, map, Result, MatchResult, ◌≢◌}
+use Rattle.std.specs.Prelude.{◌≡◌, ℕ, List, [], ◌++◌, map, Option, Result, MatchResult, ◌≢◌}
+use Rattle.std.specs.Borrow.{Bor}
 use Rattle.std.specs.List.{AllByRecursion}
 use Rattle.std.specs.Option.{option_map_or}
 use Rattle.text.specs.Texts.{Field, Fits, shown, parted}
@@ -7,9 +8,13 @@ use Rattle.text.specs.Faults.{told, ill_formed}
 use Rattle.text.specs.declared.fault.Fault.{Fault}
 use Rattle.text.specs.declared.field.Fields.{Fields}
 
+-- the parts of what is left of a line
+abbrev pub left : Option (Bor (List ℕ)) → List (List ℕ)
+left r = option_map_or (λ x. parted 32 x.now) r []
+
 -- the fields that are left, as they stand
 abbrev pub words : Fields → List (List ℕ)
-words f = option_map_or (λ r. parted 32 r.now) f.rest []
+words f = left f.rest
 
 -- no value that P holds of has the words
 abbrev pub Unlike : {A : Type 0} → (A → List Field) → (A → Type 0) → List (List ℕ) → Type 0

@@ -2,9 +2,9 @@
 use Rattle.std.proofs.Common.{ℕ, ◌*◌, ◌/◌, ◌^◌, ◌<◌, ◌≤◌, List, [], ◌∷◌, map, length, IfSome, Some, None, codes, Option, arith}
 use Rattle.std.specs.List.{AllByRecursion}
 use Rattle.std.proofs.lemmas.Fmt.{length-decimal-le}
-use Rattle.text.specs.Texts.{word, number, written}
+use Rattle.text.specs.Texts.{word, number, figures, written}
 use Rattle.writer.specs.Listings.{event_line, done_line, no_line, end_line, mean_word}
-use Rattle.writer.specs.Steps.{figures, spread}
+use Rattle.writer.specs.Steps.{spread}
 use Rattle.writer.proofs.Written.{digits_ten, length_mean, length_written}
 
 pub length_event : (c t k n : ℕ) (kind : List ℕ) → c < 65536 → length kind ≤ 3 → t < 1000 → k < 10 → n < 100 → length (written (event_line c kind t k n)) ≤ 20

@@ -1,12 +1,7 @@
 -- The steps in which a line is written, and the room that they take.
-use Rattle.std.specs.Prelude.{◌≡◌, ℕ, ◌+◌, ◌<◌, List, [], ◌∷◌, map, length, Option, MatchOption}
-use Rattle.text.specs.Texts.{number, shown}
+use Rattle.std.specs.Prelude.{◌≡◌, ℕ, ◌+◌, ◌<◌, List, [], ◌∷◌, length, Option, MatchOption}
 use Rattle.writer.specs.Listings.{beyond, SameLender, Appends}
 use Rattle.writer.specs.declared.writer.Writer.{Writer}
-
--- numbers as words
-abbrev pub figures : List ℕ → List (List ℕ)
-figures ns = map shown (map number ns)
 
 -- the bytes of words, each with one byte that parts it from the next or ends the line
 abbrev pub spread : List (List ℕ) → ℕ

@@ -1,9 +1,9 @@
 // How many bytes the fields of a line take.
 ghost use Rattle.std.specs.Prelude.{◌≡◌, ◌≤◌, ◌∷◌, map, length, decimal};
 ghost use Rattle.text.specs.Faults.{layer_word};
-ghost use Rattle.text.specs.Texts.{shown};
+ghost use Rattle.text.specs.Texts.{shown, figures};
 ghost use Rattle.writer.specs.Listings.{stamped_line, mean_word};
-ghost use Rattle.writer.specs.Steps.{figures, spread, Leaves};
+ghost use Rattle.writer.specs.Steps.{spread, Leaves};
 
 use text::fault::Layer;
 

@@ -1,10 +1,10 @@
 use Rattle.std.proofs.Common.{◌≡◌, ◌+◌, ◌++◌, map, length, get_or, take, drop, sym, ap, ◌∙◌, arith}
 use Rattle.std.proofs.lemmas.Result.{err_from_is_err_and}
 use Rattle.text.specs.Faults.{ill_formed}
-use Rattle.text.specs.Texts.{number}
+use Rattle.text.specs.Texts.{number, figures}
 use Rattle.text.specs.Lines.{Blank}
 use Rattle.text.proofs.Exits.{opened}
-use Rattle.text.proofs.Figures.{figures, figures_next, fits_at}
+use Rattle.text.proofs.Figures.{figures_next, fits_at}
 use Rattle.text.proofs.rows.numbers.Goals as goal
 
 pub returns-in_err-numbers : goal.returns-in_err-numbers

@@ -1,5 +1,6 @@
 use Rattle.std.proofs.Common.{◌+◌, sym, subst, lt_of_not-le, arith}
-use Rattle.writer.specs.Steps.{figures, spread, Leaves}
+use Rattle.text.specs.Texts.{figures}
+use Rattle.writer.specs.Steps.{spread, Leaves}
 use Rattle.writer.proofs.Written.{spread_more, spread_take}
 use Rattle.writer.proofs.widths.after_numbers.Goals as goal
 

@@ -1,5 +1,6 @@
 use Rattle.std.proofs.Common.{◌≡◌, ◌+◌, take}
-use Rattle.writer.specs.Steps.{figures, spread}
+use Rattle.text.specs.Texts.{figures}
+use Rattle.writer.specs.Steps.{spread}
 use Rattle.writer.proofs.widths.after_numbers.Given as goal
 
 abbrev pub invariant-loop-n : goal.invariant-loop-n

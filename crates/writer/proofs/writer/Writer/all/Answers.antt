@@ -1,5 +1,6 @@
 use Rattle.std.proofs.Common.{◌+◌, ◌∷◌, get_or, take, decimal, subst, arith}
-use Rattle.writer.specs.Steps.{Puts, figures}
+use Rattle.text.specs.Texts.{figures}
+use Rattle.writer.specs.Steps.{Puts}
 use Rattle.writer.proofs.Written.{puts_both, figures_step, length_joined, spread_more, spread_take}
 use Rattle.writer.proofs.writer.Writer.all.Goals as goal
 

@@ -2,8 +2,7 @@ use Rattle.std.proofs.Common.{◌∷◌, map, Err, Result, sym, ap, ◌∙◌, s
 use Rattle.std.proofs.lemmas.Result.{err_from_is_err_and}
 use Rattle.fabric.specs.declared.refusal.Refusal.{Refusal}
 use Rattle.fabric.specs.Refusals.{shown}
-use Rattle.text.specs.Texts.{word, number}
-use Rattle.writer.specs.Steps.{figures}
+use Rattle.text.specs.Texts.{word, number, figures}
 use Rattle.writer.specs.Listings.{LineOut, stamped_line}
 use Rattle.writer.specs.Listings.LineOut.{added, short}
 use Rattle.writer.proofs.Written.{lined, length_written, length_joined, too_few, enough, no_memory}
