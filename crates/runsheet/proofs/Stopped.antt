@@ -126,13 +126,9 @@ module _ (d : Draft) (bs rest : List ℕ) (v : Valid d) (o : bs ≡ text (lines_
       ))
 
   overs : (f : Fault) (e : Entry) (more : List ℕ) → told f ≡ too_many (length (lines_read d) + 1) → AllByRecursion Fits (entry_line e) → Suits d e → Exceeds e → rest ≡ written (entry_line e) ++ more → Stops lines Lawful Unlimited bs (length (lines_read d)) f
-  overs f (entry.Shape y) more at g u x w = absurd x
-  overs f (entry.Kind y) more at g u x w = absurd x
-  overs f (entry.Run y) more at g u x w = absurd x
   overs f (entry.Cables n) more at g u x w = over_cables f n more at g u x w
-  overs f (entry.Cable y) more at g u x w = absurd x
   overs f (entry.Packets n) more at g u x w = over_packets f n more at g u x w
-  overs f (entry.Packet y) more at g u x w = absurd x
+  overs f e more at g u x w = absurd x
 
   module _ (short : length bs ≤ 65536) (f : Fault) (k : ℕ) (n : k ≡ length (lines_read d)) where
     -- the line that comes next is refused

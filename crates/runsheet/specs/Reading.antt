@@ -1,5 +1,5 @@
 -- How far the reader has come, and what may come next.
-use Rattle.std.specs.Prelude.{◌≡◌, ℕ, ◌<◌, ◌≤◌, cond, ◌⊎◌, List, [], ◌∷◌, ◌++◌, map, length, Result, MatchResult, nat_lt}
+use Rattle.std.specs.Prelude.{◌≡◌, ℕ, ◌<◌, ◌≤◌, cond, ◌⊎◌, List, [], ◌∷◌, ◌++◌, map, length, Option, Some, None, IfSome, IsSomeAnd, Result, MatchResult, nat_lt}
 use Rattle.std.specs.List.{AllByRecursion}
 use Rattle.batch.specs.Items.{items}
 use Rattle.fabric.specs.declared.parts.Cable.{Cable}
@@ -79,24 +79,18 @@ Bars section.End d ws = Unit {0}
 abbrev pub Judges : Draft → ℕ → List (List ℕ) → Result Entry Fault → Type 0
 Judges d k ws r = MatchResult r (λ e. (ws ≡ map shown (entry_line e)) × AllByRecursion Fits (entry_line e) × Suits d e) (λ f. (told f ≡ ill_formed k) × Bars d.section d ws)
 
+-- the count that a line tells, and its limit
+abbrev pub count_told : Entry → Option (ℕ × ℕ)
+count_told (entry.Cables n) = Some (n, 128)
+count_told (entry.Packets n) = Some (n, 256)
+count_told e = None
+
 -- a count within its limit, and one above it
 abbrev pub Within : Entry → Type 0
-Within (entry.Shape x) = Unit {0}
-Within (entry.Kind x) = Unit {0}
-Within (entry.Run x) = Unit {0}
-Within (entry.Cables n) = n ≤ 128
-Within (entry.Cable x) = Unit {0}
-Within (entry.Packets n) = n ≤ 256
-Within (entry.Packet x) = Unit {0}
+Within e = IfSome (count_told e) (λ c. c.0 ≤ c.1)
 
 abbrev pub Exceeds : Entry → Type 0
-Exceeds (entry.Shape x) = ⊥
-Exceeds (entry.Kind x) = ⊥
-Exceeds (entry.Run x) = ⊥
-Exceeds (entry.Cables n) = 128 < n
-Exceeds (entry.Cable x) = ⊥
-Exceeds (entry.Packets n) = 256 < n
-Exceeds (entry.Packet x) = ⊥
+Exceeds e = IsSomeAnd (count_told e) (λ c. c.1 < c.0)
 
 -- the lines that were read
 abbrev pub cabled_lines : Draft → List (List Field)
