@@ -4,7 +4,7 @@ use Rattle.std.specs.List.{AllByRecursion}
 use Rattle.std.proofs.lemmas.List.{length-append, length_push}
 use Rattle.std.proofs.Permutation.{every_at}
 use Rattle.fabric.specs.declared.parts.Cable.{Cable}
-use Rattle.text.specs.Texts.{Field, Fits, Free, Lined, row, written, text, Barred, Any}
+use Rattle.text.specs.Texts.{Field, Fits, Free, Lined, row, written, text, Any}
 use Rattle.runsheet.specs.Said.{Said}
 use Rattle.text.specs.Lines.{packets_line, packet_line, kind_line, cables_line, cable_line, shape_line, run_line}
 use Rattle.runsheet.specs.Sheets.{lines, Formed, SheetText, Refused}
@@ -20,7 +20,7 @@ use Rattle.text.proofs.Values.{tell_cables, tell_packets, same_row}
 use Rattle.runsheet.proofs.Apart.{tidy_entry, tidy_lines, fits_packets}
 use Rattle.text.proofs.Lists.{all_left}
 use Rattle.text.proofs.Aligned.{Agree, Matched, cut}
-use Rattle.text.proofs.Stopping.{along, goes_on, halted, onward, is_line, no_line, other_line}
+use Rattle.text.proofs.Stopping.{Barred, along, goes_on, halted, onward, is_line, no_line, other_line}
 use Rattle.runsheet.proofs.Sections.{unlike}
 use Rattle.runsheet.proofs.Moves.{few_cables, few_packets}
 use Rattle.runsheet.proofs.Filling.{fill, spare_wires, spare_plans, formed_fill, lines_fill, weaker, no_wires, no_plans, begun}

@@ -2,7 +2,7 @@
 use Rattle.std.proofs.Common.{◌≡◌, ◌≢◌, ℕ, ◌+◌, ◌-◌, ◌<◌, eqb, List, [], ◌∷◌, ◌++◌, map, length, take, drop, Some, sym, refl, ap, ◌∙◌, subst, inl, append_assoc, arith}
 use Rattle.std.specs.List.{position, AllByRecursion}
 use Rattle.std.proofs.lemmas.List.{take-append-drop, take_rest, drop_more, take_at, length-append, flat_map_more}
-use Rattle.text.specs.Texts.{Field, Fits, Free, Lined, Barred, shown, spaced, row, written, text, parted}
+use Rattle.text.specs.Texts.{Field, Fits, Free, Lined, shown, spaced, row, written, text, parted}
 use Rattle.text.specs.Fields.{Unlike}
 use Rattle.text.specs.Faults.{told, ill_formed, GoesOn, Stops}
 use Rattle.text.specs.declared.fault.Fault.{Fault}
@@ -35,6 +35,10 @@ onward A B l bs rest more e g h = e ∙ ap (λ q. text A ++ q) h ∙ sym (append
 
 pub shorter : (l : List Field) (rest more : List ℕ) → rest ≡ written l ++ more → length more < length rest
 shorter l rest more e = omega (arith, ap length (e ∙ append_assoc (row l) (10 ∷ []) more), length-append (row l) (10 ∷ more))
+
+-- the text begins with no line of the kind
+abbrev pub Barred : {X : Type 0} → (X → List Field) → (X → Type 0) → List ℕ → Type 0
+Barred {X} line P t = (x : X) (more : List ℕ) → AllByRecursion Fits (line x) → P x → t ≢ written (line x) ++ more
 
 module _ {X : Type 0} (line : X → List Field) (P : X → Type 0) (rest : List ℕ) where
   pub no_line : Free 10 rest → Barred line P rest

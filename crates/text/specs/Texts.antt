@@ -56,7 +56,3 @@ Lined t ws more = (l : List ℕ) × (t ≡ l ++ 10 ∷ more) × Free 10 l × (ws
 -- for kinds of lines that are bound by nothing but their form
 abbrev pub Any : {X : Type 0} → X → Type 0
 Any x = Unit {0}
-
--- the text begins with no line of the kind
-abbrev pub Barred : {X : Type 0} → (X → List Field) → (X → Type 0) → List ℕ → Type 0
-Barred {X} line P t = (x : X) (more : List ℕ) → AllByRecursion Fits (line x) → P x → t ≢ written (line x) ++ more
