@@ -19,7 +19,7 @@ use Rattle.text.proofs.Tidy.{Tidy, tidy_cables, tidy_packets}
 use Rattle.text.proofs.Values.{tell_cables, tell_packets, same_row}
 use Rattle.runsheet.proofs.Apart.{tidy_entry, tidy_lines, fits_packets}
 use Rattle.text.proofs.Lists.{all_left}
-use Rattle.text.proofs.Aligned.{Agree, Matched, cut}
+use Rattle.text.proofs.Aligned.{Agree, Matched, cut, ended}
 use Rattle.text.proofs.Stopping.{Barred, along, goes_on, halted, onward, is_line, no_line, other_line}
 use Rattle.runsheet.proofs.Sections.{unlike}
 use Rattle.runsheet.proofs.Moves.{few_cables, few_packets}
@@ -37,10 +37,6 @@ unlimited s F = weaker 128 256 (2 ^ 32) (2 ^ 32) s (omega arith) (omega arith) F
 
 tidied : (s : Said) → Unlimited s → AllByRecursion Tidy (lines s)
 tidied s F = tidy_lines s F.numbers
-
--- the bytes of a line and what follows it
-ended : (l : List Field) (more : List ℕ) → written l ++ more ≡ row l ++ 10 ∷ more
-ended l more = append_assoc (row l) (10 ∷ []) more
 
 some_line : (rest : List ℕ) (ws : List (List ℕ)) (more : List ℕ) → Lined rest ws more → rest ≡ [] → ⊥
 some_line rest ws more l z = let e = length-append l.0 (10 ∷ more) in omega (arith, ap length (sym z ∙ l.1))

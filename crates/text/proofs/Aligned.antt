@@ -16,8 +16,12 @@ cut (x ∷ a) (y ∷ b) s t f g e =
     let k = cut a b s t f.1 g.1 (ap (drop 1) e) in
     (ap (λ z. z ∷ a) (ap (λ l. get_or l 0 x) e) ∙ ap (λ l. y ∷ l) k.0, k.1)
 
+-- the bytes of a line and what follows it
+pub ended : (l : List Field) (more : List ℕ) → written l ++ more ≡ row l ++ 10 ∷ more
+ended l more = append_assoc (row l) (10 ∷ []) more
+
 pub spread : (l : List Field) (J r : List ℕ) → (written l ++ J) ++ r ≡ row l ++ 10 ∷ (J ++ r)
-spread l J r = append_assoc (written l) J r ∙ append_assoc (row l) (10 ∷ []) (J ++ r)
+spread l J r = append_assoc (written l) J r ∙ ended l (J ++ r)
 
 abbrev pub Agree : List (List Field) → List (List Field) → ℕ → Type 0
 Agree A B k = (j : ℕ) → j < k → row (get_or A j []) ≡ row (get_or B j [])
