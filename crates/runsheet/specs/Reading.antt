@@ -34,9 +34,9 @@ pub record Draft : Type 0 where
   pub shape : Shape
   pub kind : SwitchKind
   pub run : Run
-  pub wires : ℕ
+  pub cable_count : ℕ
   pub cables : List Cable
-  pub plans : ℕ
+  pub packet_count : ℕ
   pub packets : List Packet
   pub last : ℕ
 
@@ -47,9 +47,9 @@ draft r =
       shape = r.shape;
       kind = r.kind;
       run = r.run;
-      wires = r.wires;
+      cable_count = r.cable_count;
       cables = items r.cables;
-      plans = r.plans;
+      packet_count = r.packet_count;
       packets = items r.packets;
       last = r.last;
     }
@@ -94,10 +94,10 @@ Exceeds e = IsSomeAnd (count_told e) (λ c. c.1 < c.0)
 
 -- the lines that were read
 abbrev pub cabled_lines : Draft → List (List Field)
-cabled_lines d = shape_line d.shape ∷ kind_line d.kind ∷ run_line d.run ∷ cables_line d.wires ∷ map cable_line d.cables
+cabled_lines d = shape_line d.shape ∷ kind_line d.kind ∷ run_line d.run ∷ cables_line d.cable_count ∷ map cable_line d.cables
 
 abbrev pub all_lines : Draft → List (List Field)
-all_lines d = cabled_lines d ++ packets_line d.plans ∷ map packet_line d.packets
+all_lines d = cabled_lines d ++ packets_line d.packet_count ∷ map packet_line d.packets
 
 abbrev pub so_far : Section → Draft → List (List Field)
 so_far section.Layout d = []
@@ -114,9 +114,9 @@ lines_read d = so_far d.section d
 
 -- no cable and no packet was read, or their counts
 pub record Bare (d : Draft) : Type 0 where
-  pub wires : d.wires ≡ 0
+  pub cable_count : d.cable_count ≡ 0
   pub cables : d.cables ≡ []
-  pub plans : d.plans ≡ 0
+  pub packet_count : d.packet_count ≡ 0
   pub packets : d.packets ≡ []
 
 -- what the section says of the lists
@@ -125,10 +125,10 @@ Stage section.Layout d = Bare d
 Stage section.Switch d = Bare d
 Stage section.Run d = Bare d
 Stage section.Cables d = Bare d
-Stage section.Cable d = (length d.cables < d.wires) × (d.plans ≡ 0) × (d.packets ≡ [])
-Stage section.Packets d = (length d.cables ≡ d.wires) × (d.plans ≡ 0) × (d.packets ≡ [])
-Stage section.Packet d = (length d.cables ≡ d.wires) × (length d.packets < d.plans)
-Stage section.End d = (length d.cables ≡ d.wires) × (length d.packets ≡ d.plans)
+Stage section.Cable d = (length d.cables < d.cable_count) × (d.packet_count ≡ 0) × (d.packets ≡ [])
+Stage section.Packets d = (length d.cables ≡ d.cable_count) × (d.packet_count ≡ 0) × (d.packets ≡ [])
+Stage section.Packet d = (length d.cables ≡ d.cable_count) × (length d.packets < d.packet_count)
+Stage section.End d = (length d.cables ≡ d.cable_count) × (length d.packets ≡ d.packet_count)
 
 -- the cycle of the last packet, c where there is none
 abbrev pub latest : ℕ → List Packet → ℕ
@@ -139,10 +139,10 @@ pub record Valid (d : Draft) : Type 0 where
   pub shape : AllByRecursion Fits (shape_line d.shape)
   pub run : AllByRecursion Fits (run_line d.run)
   pub cycles : Brief d.run
-  pub uncabled : Uncabled d.shape d.wires
-  pub wires : d.wires ≤ 128
+  pub uncabled : Uncabled d.shape d.cable_count
+  pub cable_count : d.cable_count ≤ 128
   pub cables : AllByRecursion (λ x. AllByRecursion Fits (cable_line x)) d.cables
-  pub plans : d.plans ≤ 256
+  pub packet_count : d.packet_count ≤ 256
   pub packets : AllByRecursion (λ x. AllByRecursion Fits (packet_line x)) d.packets
   pub sized : AllByRecursion Sized d.packets
   pub rising : Rising 0 d.packets

@@ -70,7 +70,7 @@ fn go_on<T: Copy, const N: usize>(
     if list.len() < told { item } else { past }
 }
 
-// What was read of a sheet; of its cables and packets the first of as many as were told, `wires` and `plans`.
+// What was read of a sheet; of its cables and packets the first of as many as were told, `cable_count` and `packet_count`.
 #[derive(Drop)]
 struct Reader {
     section: Section,
@@ -78,9 +78,9 @@ struct Reader {
     kind: SwitchKind,
     run: Run,
     cables: Batch<Cable, MOST_CABLES>,
-    wires: usize,
+    cable_count: usize,
     packets: Batch<Packet, MOST_PACKETS>,
-    plans: usize,
+    packet_count: usize,
     // the cycle of the last packet
     last: u32,
 }
@@ -97,9 +97,9 @@ impl Reader {
             kind: SwitchKind::default(),
             run: Run::default(),
             cables: Batch::new(Cable::default()),
-            wires: 0,
+            cable_count: 0,
             packets: Batch::new(Packet::default()),
-            plans: 0,
+            packet_count: 0,
             last: 0,
         }
     }
@@ -148,21 +148,23 @@ impl Reader {
                 self.section = Section::Cables;
             }
             Entry::Cables(count) => {
-                self.wires = count;
+                self.cable_count = count;
                 self.section = go_on(&self.cables, count, Section::Cable, Section::Packets);
             }
             Entry::Cable(cable) => {
                 self.cables.push(cable).unwrap();
-                self.section = go_on(&self.cables, self.wires, Section::Cable, Section::Packets);
+                let count = self.cable_count;
+                self.section = go_on(&self.cables, count, Section::Cable, Section::Packets);
             }
             Entry::Packets(count) => {
-                self.plans = count;
+                self.packet_count = count;
                 self.section = go_on(&self.packets, count, Section::Packet, Section::End);
             }
             Entry::Packet(packet) => {
                 self.packets.push(packet).unwrap();
                 self.last = packet.cycle;
-                self.section = go_on(&self.packets, self.plans, Section::Packet, Section::End);
+                let count = self.packet_count;
+                self.section = go_on(&self.packets, count, Section::Packet, Section::End);
             }
         }
     }
