@@ -9,7 +9,7 @@ use super::field::{Fields, is};
 use super::parts::{Packet, Run, Shape, SwitchKind};
 use fabric::parts::{Cable, Slot};
 
-const MOST_CYCLES: u32 = 65535;
+const MOST_RUN_CYCLES: u32 = 65535;
 
 const MOST_WORDS: u32 = 4;
 
@@ -69,7 +69,7 @@ pub fn run(mut fields: Fields) -> Result<Run, Fault>
     ensures { Reads run_line Brief (codes "run" ∷ words fields.entry) fields.entry.line result }
 {
     let [tickets, words, epoch, seed, cycles] = numbers::<5>(&mut fields, 5)?;
-    if cycles > MOST_CYCLES {
+    if cycles > MOST_RUN_CYCLES {
         return Err(fields.fault());
     }
     fields.end()?;

@@ -2,7 +2,7 @@
 ghost use Rattle.std.specs.Prelude.{◌≡◌, ◌+◌, ◌≤◌, [], ◌∷◌, length, decimal};
 ghost use Rattle.text.specs.Texts.{figures, after_spaces};
 ghost use Rattle.writer.specs.Listings.{beyond};
-ghost use Rattle.writer.specs.Steps.{spread, Puts};
+ghost use Rattle.writer.specs.Steps.{bytes_taken, Puts};
 
 use super::Writer;
 
@@ -63,7 +63,7 @@ impl<'a> Writer<'a> {
 
     // Numbers, each after a space.
     pub(super) fn all(&mut self, ns: &[u32])
-        requires { spread (figures ns.now) ≤ length (beyond self.old) }
+        requires { bytes_taken (figures ns.now) ≤ length (beyond self.old) }
         ensures { Puts self.old (after_spaces (figures ns.now)) self.new }
     {
         for n in ns {

@@ -15,8 +15,8 @@ returns-in_err-tickets c =
     c.in_err-tickets.ensures.0.1 ns [] fits.1 (refl, blank_at_end ns) (cc))
 
 -- the last number is read, and too large
-pub returns-then-cycles-gt-MOST_CYCLES : goal.returns-then-cycles-gt-MOST_CYCLES
-returns-then-cycles-gt-MOST_CYCLES c =
+pub returns-then-cycles-gt-MOST_RUN_CYCLES : goal.returns-then-cycles-gt-MOST_RUN_CYCLES
+returns-then-cycles-gt-MOST_RUN_CYCLES c =
     let read = c.in_ok-tickets.ensures.0 in (
       c.fault.ensures ∙ ap ill_formed c.in_ok-tickets.ensures.1,
       λ x fits p e.
