@@ -1,9 +1,9 @@
 // The fields of a line, one after another.
-ghost use Rattle.std.specs.Prelude.{◌≡◌, ◌==◌, [], ◌∷◌, Decides, MatchResult, ◌≢◌};
+ghost use Rattle.std.specs.Prelude.{◌≡◌, ◌==◌, Decides};
 ghost use Rattle.std.specs.List.{position};
 ghost use Rattle.text.specs.Faults.{told, ill_formed, too_many};
 ghost use Rattle.text.specs.Texts.{parted, Any};
-ghost use Rattle.text.specs.Fields.{words, Begins};
+ghost use Rattle.text.specs.Fields.{words, NextWord, AtEnd, Begins};
 ghost use Rattle.text.specs.Lines.{number_field, port_field};
 
 use super::fault::Fault;
@@ -44,7 +44,7 @@ impl<'a> Fields<'a> {
 
     // The next field.
     pub fn word(&mut self) -> Result<&'a [u8], Fault>
-        ensures words { MatchResult result (λ w. words self.old ≡ w.now ∷ words self.new) (λ f. (told f ≡ ill_formed self.old.line) × (words self.old ≡ []) × (self.new ≡ self.old)) }
+        ensures words { NextWord self.old self.new result }
         ensures line { self.new.line ≡ self.old.line }
     {
         let rest = self.rest.ok_or(self.fault())?;
@@ -90,7 +90,7 @@ impl<'a> Fields<'a> {
 
     // No field is left.
     pub(crate) fn end(&self) -> Result<(), Fault>
-        ensures { MatchResult result (λ _. words self.now ≡ []) (λ f. (told f ≡ ill_formed self.now.line) × (words self.now ≢ [])) }
+        ensures { AtEnd self.now result }
     {
         if self.rest.is_some() {
             return Err(self.fault());
