@@ -3,7 +3,7 @@ ghost use Rattle.std.specs.Prelude.{◌≡◌, length, MatchResult};
 ghost use Rattle.std.specs.List.{AllByRecursion};
 ghost use Rattle.batch.specs.Items.{items};
 ghost use Rattle.text.specs.Faults.{told, too_many};
-ghost use Rattle.text.specs.Fields.{words};
+ghost use Rattle.text.specs.Fields.{words, line_number};
 ghost use Rattle.text.specs.Texts.{Fits};
 ghost use Rattle.runsheet.specs.Said.{said};
 ghost use Rattle.runsheet.specs.Sheets.{SheetText, Refused, OneSheet};
@@ -45,7 +45,7 @@ enum Entry {
 
 // A count over its limit is refused only where its line is of its form.
 fn check_limit(entry: Entry, line: &Fields) -> Result<(), Fault>
-    ensures { MatchResult result (λ _. Within entry) (λ f. (told f ≡ too_many line.now.line) × Exceeds entry) }
+    ensures { MatchResult result (λ _. Within entry) (λ f. (told f ≡ too_many (line_number line.now)) × Exceeds entry) }
 {
     let (count, most) = match entry {
         Entry::Cables(count) => (count, MOST_CABLES),
@@ -107,7 +107,7 @@ impl Reader {
     // What the next line says. A cable and a packet have no fixed first word, so their lines are
     // read from the start.
     fn entry(&self, line: &Fields) -> Result<Entry, Fault>
-        ensures { Judges (draft self.now) line.now.line (words line.now) result }
+        ensures { Judges (draft self.now) (line_number line.now) (words line.now) result }
     {
         let mut fields = *line;
         let word = fields.word()?;
@@ -172,7 +172,7 @@ impl Reader {
     // Reads the next line.
     fn step(&mut self, line: &Fields) -> Result<(), Fault>
         requires { Valid (draft self.old) }
-        ensures { MatchResult result (λ _. Reached (draft self.old) (draft self.new) (words line.now)) (λ f. Refuses (draft self.old) line.now.line (words line.now) f) }
+        ensures { MatchResult result (λ _. Reached (draft self.old) (draft self.new) (words line.now)) (λ f. Refuses (draft self.old) (line_number line.now) (words line.now) f) }
     {
         let entry = self.entry(line)?;
         check_limit(entry, line)?;

@@ -4,7 +4,7 @@ use Rattle.std.specs.List.{AllByRecursion}
 use Rattle.std.specs.Option.{ok_or}
 use Rattle.std.specs.Result.{IsErrAnd}
 use Rattle.text.specs.Texts.{Field, Fits, shown}
-use Rattle.text.specs.Fields.{words, Unlike, Reads, Begins}
+use Rattle.text.specs.Fields.{words, line_number, Unlike, Reads, Begins}
 use Rattle.text.specs.Faults.{told, ill_formed}
 use Rattle.text.specs.declared.fault.Fault.{Fault}
 use Rattle.text.specs.declared.field.Fields.{Fields}
@@ -42,5 +42,5 @@ pub passed : {A : Type 0} (line : A → List Field) (P : A → Type 0) (ws : Lis
 passed line P ws k r f p at none = err_at _ _ r f p (at, none)
 
 pub opened : {A : Type 0} (part : A → List Field) (P : A → Type 0) (old new : Fields) (r : Result A Fault) (f : Fault) →
-    Passes r f → told f ≡ ill_formed old.line → ((x : A) (vs : List (List ℕ)) → AllByRecursion Fits (part x) → P x → words old ≡ map shown (part x) ++ vs → ⊥) → new.line ≡ old.line → Begins part P old new r
+    Passes r f → told f ≡ ill_formed (line_number old) → ((x : A) (vs : List (List ℕ)) → AllByRecursion Fits (part x) → P x → words old ≡ map shown (part x) ++ vs → ⊥) → line_number new ≡ line_number old → Begins part P old new r
 opened part P old new r f p at none line = (err_at _ _ r f p (at, none), line)

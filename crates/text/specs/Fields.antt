@@ -16,6 +16,10 @@ left r = option_map_or (λ x. parted 32 x.now) r []
 abbrev pub words : Fields → List (List ℕ)
 words f = left f.rest
 
+-- which line they are of, counted from 1
+abbrev pub line_number : Fields → ℕ
+line_number f = f.line
+
 -- a word that no number of 32 bits writes
 abbrev pub Unwritten : List ℕ → Type 0
 Unwritten w = (n : ℕ) → n < 2 ^ 32 → w ≢ decimal n
@@ -29,11 +33,11 @@ abbrev pub NextWord : Fields → Fields → Result (Bor (List ℕ)) Fault → Ty
 NextWord old new r =
     MatchResult r
     (λ w. words old ≡ w.now ∷ words new)
-    (λ f. (told f ≡ ill_formed old.line) × (words old ≡ []) × (new ≡ old))
+    (λ f. (told f ≡ ill_formed (line_number old)) × (words old ≡ []) × (new ≡ old))
 
 -- no field is left, or one too many
 abbrev pub AtEnd : Fields → Result (Unit {0}) Fault → Type 0
-AtEnd x r = MatchResult r (λ _. words x ≡ []) (λ f. (told f ≡ ill_formed x.line) × (words x ≢ []))
+AtEnd x r = MatchResult r (λ _. words x ≡ []) (λ f. (told f ≡ ill_formed (line_number x)) × (words x ≢ []))
 
 -- no value that P holds of has the words
 abbrev pub Unlike : {A : Type 0} → (A → List Field) → (A → Type 0) → List (List ℕ) → Type 0
@@ -48,5 +52,5 @@ abbrev pub Begins : {A : Type 0} → (A → List Field) → (A → Type 0) → F
 Begins {A} part P old new r =
     MatchResult r
     (λ x. (words old ≡ map shown (part x) ++ words new) × AllByRecursion Fits (part x) × P x)
-    (λ f. (told f ≡ ill_formed old.line) × ((x : A) (vs : List (List ℕ)) → AllByRecursion Fits (part x) → P x → words old ≢ map shown (part x) ++ vs))
-    × (new.line ≡ old.line)
+    (λ f. (told f ≡ ill_formed (line_number old)) × ((x : A) (vs : List (List ℕ)) → AllByRecursion Fits (part x) → P x → words old ≢ map shown (part x) ++ vs))
+    × (line_number new ≡ line_number old)

@@ -3,7 +3,7 @@ ghost use Rattle.std.specs.Prelude.{◌≡◌, ◌==◌, Decides};
 ghost use Rattle.std.specs.List.{position};
 ghost use Rattle.text.specs.Faults.{told, ill_formed, too_many};
 ghost use Rattle.text.specs.Texts.{parted, Any};
-ghost use Rattle.text.specs.Fields.{words, NextWord, AtEnd, Begins};
+ghost use Rattle.text.specs.Fields.{words, line_number, NextWord, AtEnd, Begins};
 ghost use Rattle.text.specs.Lines.{number_field, port_field};
 
 use super::fault::Fault;
@@ -34,7 +34,7 @@ pub struct Fields<'a> {
 impl<'a> Fields<'a> {
     pub(crate) fn new(text: &'a [u8], line: u32) -> Fields<'a>
         ensures words { words result ≡ parted 32 text.now }
-        ensures line { result.line ≡ line }
+        ensures line { line_number result ≡ line }
     {
         Fields {
             rest: Some(text),
@@ -45,7 +45,7 @@ impl<'a> Fields<'a> {
     // The next field.
     pub fn word(&mut self) -> Result<&'a [u8], Fault>
         ensures words { NextWord self.old self.new result }
-        ensures line { self.new.line ≡ self.old.line }
+        ensures line { line_number self.new ≡ line_number self.old }
     {
         let rest = self.rest.ok_or(self.fault())?;
         let end = find(rest, b' ').unwrap_or(rest.len());
@@ -76,14 +76,14 @@ impl<'a> Fields<'a> {
 
     // The line is not of its form.
     pub fn fault(&self) -> Fault
-        ensures { told result ≡ ill_formed self.now.line }
+        ensures { told result ≡ ill_formed (line_number self.now) }
     {
         Fault::ill_formed(self.line)
     }
 
     // The line's count exceeds its limit.
     pub fn excess(&self) -> Fault
-        ensures { told result ≡ too_many self.now.line }
+        ensures { told result ≡ too_many (line_number self.now) }
     {
         Fault::too_many(self.line)
     }

@@ -1,7 +1,7 @@
 // A text is read line by line.
 ghost use Rattle.std.specs.Prelude.{◌≡◌, ◌+◌, [], Decides};
 ghost use Rattle.text.specs.Faults.{told, ill_formed};
-ghost use Rattle.text.specs.Unread.{Unopened, NextLine};
+ghost use Rattle.text.specs.Unread.{unread, line_count, Unopened, NextLine};
 
 use super::{Lines, MOST_BYTES};
 use crate::fault::Fault;
@@ -32,14 +32,14 @@ impl<'a> Lines<'a> {
     }
 
     pub fn is_empty(&self) -> bool
-        ensures { Decides result (self.now.rest.now ≡ []) }
+        ensures { Decides result (unread self.now ≡ []) }
     {
         self.rest.is_empty()
     }
 
     // The line after those that were read lacks its end, is missing or is one too many.
     pub fn fault(&self) -> Fault
-        ensures { told result ≡ ill_formed (self.now.read + 1) }
+        ensures { told result ≡ ill_formed (line_count self.now + 1) }
     {
         Fault::ill_formed(self.read + 1)
     }

@@ -2,6 +2,7 @@ use Rattle.std.proofs.Common.{◌+◌, length, sym, refl, ap, subst, ◌∙◌}
 use Rattle.std.proofs.lemmas.Bool.{false≢true}
 use Rattle.std.proofs.lemmas.List.{length_push}
 use Rattle.text.specs.Fields.{words}
+use Rattle.text.specs.Unread.{unread, line_count}
 use Rattle.std.proofs.lemmas.Result.{err_from_is_err_and}
 use Rattle.runsheet.specs.Sheets.{Refused}
 use Rattle.runsheet.specs.Reading.{draft, entry_line, lines_read, Refuses}
@@ -17,7 +18,7 @@ returns-in_err-next_line-clause-read c =
     let i = c.loop-reader.invariant in
     let h = c.in_err-next_line.ensures in
     err_at _ (Refused bs) _ _ (err_from_is_err_and _ c.from_residual-in_err-next_line.ensures.1)
-    (unended (draft c.loop-reader.reader) bs c.loop-reader.lines.rest.now i.0 i.1 c.in_ok-lines.ensures.0 _ c.loop-reader.lines.read i.2 h.0 h.1 (λ z. false≢true (sym c.loop-reader-test.true ∙ c.is_empty.ensures.1 z)))
+    (unended (draft c.loop-reader.reader) bs (unread c.loop-reader.lines) i.0 i.1 c.in_ok-lines.ensures.0 _ (line_count c.loop-reader.lines) i.2 h.0 h.1 (λ z. false≢true (sym c.loop-reader-test.true ∙ c.is_empty.ensures.1 z)))
 
 pub loop-reader-preserved : goal.loop-reader-preserved
 loop-reader-preserved c =
@@ -37,17 +38,17 @@ returns-in_err-step-clause-read c =
     let i = c.loop-reader.invariant in
     let n = c.in_ok-next_line.ensures in
     err_at _ (Refused bs) _ _ (err_from_is_err_and _ c.from_residual-in_err-step.ensures.1)
-    (refused (draft c.loop-reader.reader) bs c.loop-reader.lines.rest.now i.0 i.1 c.in_ok-lines.ensures.0 _ c.loop-reader.lines.read i.2 _ _ n.0 (subst (λ k. Refuses (draft c.loop-reader.reader) k (words c.in_ok-next_line.field-0) c.in_err-step.field-0.0) n.1 c.in_err-step.ensures))
+    (refused (draft c.loop-reader.reader) bs (unread c.loop-reader.lines) i.0 i.1 c.in_ok-lines.ensures.0 _ (line_count c.loop-reader.lines) i.2 _ _ n.0 (subst (λ k. Refuses (draft c.loop-reader.reader) k (words c.in_ok-next_line.field-0) c.in_err-step.field-0.0) n.1 c.in_err-step.ensures))
 
 pub returns-in_default-clause-read : goal.returns-in_default-clause-read
 returns-in_default-clause-read c =
     let i = c.loop-reader.invariant in
-    missing (draft c.loop-reader.reader) c.args.bytes.now c.loop-reader.lines.rest.now i.0 i.1 c.in_ok-lines.ensures.0 _ c.loop-reader.lines.read i.2 c.fault.ensures c.in_default.not-End (c.is_empty.ensures.0 c.loop-reader-test.false)
+    missing (draft c.loop-reader.reader) c.args.bytes.now (unread c.loop-reader.lines) i.0 i.1 c.in_ok-lines.ensures.0 _ (line_count c.loop-reader.lines) i.2 c.fault.ensures c.in_default.not-End (c.is_empty.ensures.0 c.loop-reader-test.false)
 
 pub returns-in-End-clause-read : goal.returns-in-End-clause-read
 returns-in-End-clause-read c =
     let i = c.loop-reader.invariant in
-    finished (draft c.loop-reader.reader) c.args.bytes.now c.loop-reader.lines.rest.now _ i.0 i.1 c.in-End.is (c.is_empty.ensures.0 c.loop-reader-test.false) c.in_ok-lines.ensures.0 refl
+    finished (draft c.loop-reader.reader) c.args.bytes.now (unread c.loop-reader.lines) _ i.0 i.1 c.in-End.is (c.is_empty.ensures.0 c.loop-reader-test.false) c.in_ok-lines.ensures.0 refl
 
 pub returns-in_err-lines-clause-only : goal.returns-in_err-lines-clause-only
 returns-in_err-lines-clause-only c = one_sheet c.args.bytes.now

@@ -1,7 +1,7 @@
 use Rattle.std.proofs.Common.{◌≡◌, ◌++◌, map, length, take}
 use Rattle.std.specs.List.{AllByRecursion}
 use Rattle.text.specs.Texts.{Fits, number, shown}
-use Rattle.text.specs.Fields.{words}
+use Rattle.text.specs.Fields.{words, line_number}
 use Rattle.text.specs.Lines.{Blank}
 use Rattle.text.proofs.rows.numbers.Given as goal
 
@@ -11,4 +11,4 @@ invariant-loop-i g l =
     × AllByRecursion Fits (map number (take l.i l.numbers))
     × (length l.numbers ≡ g.row.N)
     × Blank l.i l.numbers
-    × (l.fields.line ≡ l.initial.fields.line)
+    × (line_number l.fields ≡ line_number l.initial.fields)
