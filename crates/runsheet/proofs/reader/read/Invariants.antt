@@ -6,7 +6,12 @@ use Rattle.runsheet.proofs.reader.read.Given as goal
 
 abbrev pub invariant-loop-reader : goal.invariant-loop-reader
 invariant-loop-reader l =
-    Valid (draft l.reader) × (l.bytes ≡ text (lines_read (draft l.reader)) ++ unread l.lines) × (line_count l.lines ≡ length (lines_read (draft l.reader)))
+    let d = draft l.reader in
+    record {
+      valid : Valid d;
+      bytes : l.bytes ≡ text (lines_read d) ++ unread l.lines;
+      count : line_count l.lines ≡ length (lines_read d);
+    }
 
 abbrev pub decreases-loop-reader : goal.decreases-loop-reader
 decreases-loop-reader l = length (unread l.lines)
