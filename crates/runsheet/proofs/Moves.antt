@@ -22,13 +22,13 @@ length_cabled d = let e = length-map d.cables cable_line in omega arith
 
 pub length_all : (d : Draft) → length (all_lines d) ≡ 5 + length d.cables + length d.packets
 length_all d =
-    let e = length-append (cabled_lines d) (packets_line d.plans ∷ map packet_line d.packets) in
+    let e = length-append (cabled_lines d) (packets_line d.packet_count ∷ map packet_line d.packets) in
     let f = length_cabled d in
     let g = length-map d.packets packet_line in
     omega arith
 
 -- the lists are no longer than their counts
-pub few_cables : (s : Section) (d : Draft) → Stage s d → length d.cables ≤ d.wires
+pub few_cables : (s : Section) (d : Draft) → Stage s d → length d.cables ≤ d.cable_count
 few_cables section.Layout d h = omega (arith, ap length h.cables)
 few_cables section.Switch d h = omega (arith, ap length h.cables)
 few_cables section.Run d h = omega (arith, ap length h.cables)
@@ -38,7 +38,7 @@ few_cables section.Packets d h = omega (arith, h.0)
 few_cables section.Packet d h = omega (arith, h.0)
 few_cables section.End d h = omega (arith, h.0)
 
-pub few_packets : (s : Section) (d : Draft) → Stage s d → length d.packets ≤ d.plans
+pub few_packets : (s : Section) (d : Draft) → Stage s d → length d.packets ≤ d.packet_count
 few_packets section.Layout d h = omega (arith, ap length h.packets)
 few_packets section.Switch d h = omega (arith, ap length h.packets)
 few_packets section.Run d h = omega (arith, ap length h.packets)
@@ -61,12 +61,12 @@ latest_push c [] x = refl
 latest_push c (p ∷ ps) x = latest_push p.cycle ps x
 
 -- with a packet more
-abbrev pub planned_by : Draft → List Packet → ℕ → Section → Draft
-planned_by d ps c s = record { section = s; shape = d.shape; kind = d.kind; run = d.run; wires = d.wires; cables = d.cables; plans = d.plans; packets = ps; last = c }
+abbrev pub with_packets : Draft → List Packet → ℕ → Section → Draft
+with_packets d ps c s = record { section = s; shape = d.shape; kind = d.kind; run = d.run; cable_count = d.cable_count; cables = d.cables; packet_count = d.packet_count; packets = ps; last = c }
 
 module _ (d : Draft) (x : Packet) (v : Valid d) (u : Suits d (entry.Packet x)) (f : AllByRecursion Fits (packet_line x)) where
-  planned_to : (s : Section) → so_far s (planned_by d (d.packets ++ x ∷ []) x.cycle s) ≡ all_lines (planned_by d (d.packets ++ x ∷ []) x.cycle s) → Stage s (planned_by d (d.packets ++ x ∷ []) x.cycle s) → Grown d (entry.Packet x) (planned_by d (d.packets ++ x ∷ []) x.cycle s)
-  planned_to s far st =
+  grown_to : (s : Section) → so_far s (with_packets d (d.packets ++ x ∷ []) x.cycle s) ≡ all_lines (with_packets d (d.packets ++ x ∷ []) x.cycle s) → Stage s (with_packets d (d.packets ++ x ∷ []) x.cycle s) → Grown d (entry.Packet x) (with_packets d (d.packets ++ x ∷ []) x.cycle s)
+  grown_to s far st =
       record {
         valid =
             record {
@@ -74,9 +74,9 @@ module _ (d : Draft) (x : Packet) (v : Valid d) (u : Suits d (entry.Packet x)) (
               run = v.run;
               cycles = v.cycles;
               uncabled = v.uncabled;
-              wires = v.wires;
+              cable_count = v.cable_count;
               cables = v.cables;
-              plans = v.plans;
+              packet_count = v.packet_count;
               packets = all_by_recursion_push (λ y. AllByRecursion Fits (packet_line y)) d.packets x v.packets f;
               sized = all_by_recursion_push Sized d.packets x v.sized u.1;
               rising = rising_push 0 d.packets x v.rising (subst (λ c. c ≤ x.cycle) v.last u.2);
@@ -85,27 +85,27 @@ module _ (d : Draft) (x : Packet) (v : Valid d) (u : Suits d (entry.Packet x)) (
             };
         lines =
             far
-            ∙ ap (λ q. cabled_lines d ++ packets_line d.plans ∷ q) (map_push packet_line d.packets x)
-            ∙ sym (append_assoc (cabled_lines d) (packets_line d.plans ∷ map packet_line d.packets) (packet_line x ∷ []))
+            ∙ ap (λ q. cabled_lines d ++ packets_line d.packet_count ∷ q) (map_push packet_line d.packets x)
+            ∙ sym (append_assoc (cabled_lines d) (packets_line d.packet_count ∷ map packet_line d.packets) (packet_line x ∷ []))
             ∙ ap (λ y. so_far y d ++ packet_line x ∷ []) (sym u.0);
       }
 
-  moved_packet : (k : ℕ) → k ≡ length d.packets + 1 → Grown d (entry.Packet x) (planned_by d (d.packets ++ x ∷ []) x.cycle (after k d.plans section.Packet section.End))
+  moved_packet : (k : ℕ) → k ≡ length d.packets + 1 → Grown d (entry.Packet x) (with_packets d (d.packets ++ x ∷ []) x.cycle (after k d.packet_count section.Packet section.End))
   moved_packet k e =
       let at : Stage section.Packet d = subst (λ y. Stage y d) u.0 v.stage in
       let m = length_push d.packets x in
-      goes (λ s. Grown d (entry.Packet x) (planned_by d (d.packets ++ x ∷ []) x.cycle s)) k d.plans section.Packet section.End
-      (λ l. planned_to section.Packet refl (at.0, omega arith))
-      (λ l. planned_to section.End refl (at.0, omega (arith, at.1)))
+      goes (λ s. Grown d (entry.Packet x) (with_packets d (d.packets ++ x ∷ []) x.cycle s)) k d.packet_count section.Packet section.End
+      (λ l. grown_to section.Packet refl (at.0, omega arith))
+      (λ l. grown_to section.End refl (at.0, omega (arith, at.1)))
 
 -- with a packet that its batch takes
 module _ (d : Draft) (v : Valid d) where
   pub packet_room : (x : Packet) → Suits d (entry.Packet x) → length d.packets < 256
-  packet_room x u = let at : Stage section.Packet d = subst (λ y. Stage y d) u.0 v.stage in omega (arith, at.1, v.plans)
+  packet_room x u = let at : Stage section.Packet d = subst (λ y. Stage y d) u.0 v.stage in omega (arith, at.1, v.packet_count)
 
-  pub put_packet : (x : Packet) (ps : List Packet) → ps ≡ joined 256 d.packets x → Suits d (entry.Packet x) → AllByRecursion Fits (packet_line x) → Grown d (entry.Packet x) (planned_by d ps x.cycle (after (length ps) d.plans section.Packet section.End))
+  pub put_packet : (x : Packet) (ps : List Packet) → ps ≡ joined 256 d.packets x → Suits d (entry.Packet x) → AllByRecursion Fits (packet_line x) → Grown d (entry.Packet x) (with_packets d ps x.cycle (after (length ps) d.packet_count section.Packet section.End))
   put_packet x ps h u f =
-      subst (λ ys. Grown d (entry.Packet x) (planned_by d ys x.cycle (after (length ys) d.plans section.Packet section.End))) (sym (h ∙ joined_room 256 d.packets x (packet_room x u)))
+      subst (λ ys. Grown d (entry.Packet x) (with_packets d ys x.cycle (after (length ys) d.packet_count section.Packet section.End))) (sym (h ∙ joined_room 256 d.packets x (packet_room x u)))
       (moved_packet d x v u f _ (length_push d.packets x))
 
 -- the entry that was put, and what was read then

@@ -4,7 +4,7 @@ use Rattle.std.specs.List.{AllByRecursion}
 use Rattle.std.proofs.lemmas.List.{length-append, length_push}
 use Rattle.std.proofs.Permutation.{every_at}
 use Rattle.fabric.specs.declared.parts.Cable.{Cable}
-use Rattle.text.specs.Texts.{Field, Fits, Free, Lined, row, written, text, Barred, Any}
+use Rattle.text.specs.Texts.{Field, Fits, Free, Lined, row, written, text, Any}
 use Rattle.runsheet.specs.Said.{Said}
 use Rattle.text.specs.Lines.{packets_line, packet_line, kind_line, cables_line, cable_line, shape_line, run_line}
 use Rattle.runsheet.specs.Sheets.{lines, Formed, SheetText, Refused}
@@ -19,11 +19,11 @@ use Rattle.text.proofs.Tidy.{Tidy, tidy_cables, tidy_packets}
 use Rattle.text.proofs.Values.{tell_cables, tell_packets, same_row}
 use Rattle.runsheet.proofs.Apart.{tidy_entry, tidy_lines, fits_packets}
 use Rattle.text.proofs.Lists.{all_left}
-use Rattle.text.proofs.Aligned.{Agree, Matched, cut}
-use Rattle.text.proofs.Stopping.{along, goes_on, halted, onward, is_line, no_line, other_line}
+use Rattle.text.proofs.Aligned.{Agree, Matched, cut, ended}
+use Rattle.text.proofs.Stopping.{Barred, along, goes_on, halted, onward, is_line, no_line, other_line}
 use Rattle.runsheet.proofs.Sections.{unlike}
 use Rattle.runsheet.proofs.Moves.{few_cables, few_packets}
-use Rattle.runsheet.proofs.Filling.{fill, spare_wires, spare_plans, formed_fill, lines_fill, weaker, no_wires, no_plans, begun}
+use Rattle.runsheet.proofs.Filling.{fill, spare_cables, spare_packets, formed_fill, lines_fill, weaker, no_spare_cables, no_spare_packets, begun}
 use Rattle.runsheet.proofs.Following.{length_lines, next_packets, follows}
 
 abbrev Lawful : Said → Type 0
@@ -38,25 +38,21 @@ unlimited s F = weaker 128 256 (2 ^ 32) (2 ^ 32) s (omega arith) (omega arith) F
 tidied : (s : Said) → Unlimited s → AllByRecursion Tidy (lines s)
 tidied s F = tidy_lines s F.numbers
 
--- the bytes of a line and what follows it
-ended : (l : List Field) (more : List ℕ) → written l ++ more ≡ row l ++ 10 ∷ more
-ended l more = append_assoc (row l) (10 ∷ []) more
-
 some_line : (rest : List ℕ) (ws : List (List ℕ)) (more : List ℕ) → Lined rest ws more → rest ≡ [] → ⊥
 some_line rest ws more l z = let e = length-append l.0 (10 ∷ more) in omega (arith, ap length (sym z ∙ l.1))
 
 -- what was read, filled up, is lawful
-lawful : (d : Draft) → Valid d → Lawful (fill d d.wires d.plans)
+lawful : (d : Draft) → Valid d → Lawful (fill d d.cable_count d.packet_count)
 lawful d v =
-    weaker d.wires d.plans 128 256 (fill d d.wires d.plans) v.wires v.plans
-    (formed_fill d d.wires d.plans (few_cables d.section d v.stage) (few_packets d.section d v.stage) v (omega (arith, v.wires)) (omega (arith, v.plans)) v.uncabled)
+    weaker d.cable_count d.packet_count 128 256 (fill d d.cable_count d.packet_count) v.cable_count v.packet_count
+    (formed_fill d d.cable_count d.packet_count (few_cables d.section d v.stage) (few_packets d.section d v.stage) v (omega (arith, v.cable_count)) (omega (arith, v.packet_count)) v.uncabled)
 
 module _ (d : Draft) (bs rest : List ℕ) (v : Valid d) (o : bs ≡ text (lines_read d) ++ rest) where
-  first : (Z : List (List Field)) × (lines (fill d d.wires d.plans) ≡ lines_read d ++ Z)
+  first : (Z : List (List Field)) × (lines (fill d d.cable_count d.packet_count) ≡ lines_read d ++ Z)
   first = begun d.section d v.stage (few_cables d.section d v.stage) (few_packets d.section d v.stage)
 
   tidy_read : AllByRecursion Tidy (lines_read d)
-  tidy_read = all_left Tidy (lines_read d) first.0 (subst (AllByRecursion Tidy) first.1 (tidied (fill d d.wires d.plans) (unlimited (fill d d.wires d.plans) (lawful d v))))
+  tidy_read = all_left Tidy (lines_read d) first.0 (subst (AllByRecursion Tidy) first.1 (tidied (fill d d.cable_count d.packet_count) (unlimited (fill d d.cable_count d.packet_count) (lawful d v))))
 
   refuted : Barred entry_line (Suits d) rest → (d.section ≡ section.End → rest ≡ [] → ⊥) → (s : Said) → Unlimited s → Matched (lines_read d) (lines s) rest → ⊥
   refuted b z s F m =
@@ -66,7 +62,7 @@ module _ (d : Draft) (bs rest : List ℕ) (v : Valid d) (o : bs ≡ text (lines_
       (follows d (2 ^ 32) (2 ^ 32) s v F d.section refl v.stage m.0)
 
   stuck : (f : Fault) → told f ≡ ill_formed (length (lines_read d) + 1) → Barred entry_line (Suits d) rest → (d.section ≡ section.End → rest ≡ [] → ⊥) → Stops lines Lawful Unlimited bs (length (lines_read d)) f
-  stuck f at b z = halted lines (lines_read d) bs rest o Lawful Unlimited f (fill d d.wires d.plans) first.0 unlimited tidied (lawful d v) first.1 at tidy_read (refuted b z)
+  stuck f at b z = halted lines (lines_read d) bs rest o Lawful Unlimited f (fill d d.cable_count d.packet_count) first.0 unlimited tidied (lawful d v) first.1 at tidy_read (refuted b z)
 
   -- a line that is too much for lawful sheets, but not for larger ones
   over : (f : Fault) (l : List Field) (more : List ℕ) (s : Said) (Z : List (List Field)) → told f ≡ too_many (length (lines_read d) + 1) → Tidy l → rest ≡ written l ++ more → Unlimited s → lines s ≡ (lines_read d ++ l ∷ []) ++ Z →
@@ -74,7 +70,7 @@ module _ (d : Draft) (bs rest : List ℕ) (v : Valid d) (o : bs ≡ text (lines_
   over f l more s Z at T w big e none =
       let A = lines_read d in
       record {
-        before = along lines A bs rest o Lawful (fill d d.wires d.plans) first.0 (lawful d v) first.1;
+        before = along lines A bs rest o Lawful (fill d d.cable_count d.packet_count) first.0 (lawful d v) first.1;
         ends = λ g.
             let L = lines g.0 in
             let t = tidied g.0 (unlimited g.0 g.1) in
@@ -91,13 +87,13 @@ module _ (d : Draft) (bs rest : List ℕ) (v : Valid d) (o : bs ≡ text (lines_
   over_cables f n more at g u x w =
       let st : Stage section.Cables d = subst (λ s. Stage s d) u.0 v.stage in
       let three : length (lines_read d) ≡ 3 = ap (λ s. length (so_far s d)) u.0 in
-      let S = fill d n d.plans in
+      let S = fill d n d.packet_count in
       let hn : length d.cables ≤ n = omega (arith, ap length st.cables) in
       let hm = few_packets d.section d v.stage in
-      let Z = map cable_line d.cables ++ (map cable_line (spare_wires d n) ++ packets_line d.plans ∷ (map packet_line d.packets ++ map packet_line (spare_plans d d.plans))) in
+      let Z = map cable_line d.cables ++ (map cable_line (spare_cables d n) ++ packets_line d.packet_count ∷ (map packet_line d.packets ++ map packet_line (spare_packets d d.packet_count))) in
       over f (cables_line n) more S Z at (tidy_cables n g) w
-      (weaker n d.plans (2 ^ 32) (2 ^ 32) S (omega (arith, g.1.0)) (omega (arith, v.plans)) (formed_fill d n d.plans hn hm v g.1.0 (omega (arith, v.plans)) u.1))
-      (lines_fill d n d.plans hn hm ∙ ap (λ s. (so_far s d ++ cables_line n ∷ []) ++ Z) (sym u.0))
+      (weaker n d.packet_count (2 ^ 32) (2 ^ 32) S (omega (arith, g.1.0)) (omega (arith, v.packet_count)) (formed_fill d n d.packet_count hn hm v g.1.0 (omega (arith, v.packet_count)) u.1))
+      (lines_fill d n d.packet_count hn hm ∙ ap (λ s. (so_far s d ++ cables_line n ∷ []) ++ Z) (sym u.0))
       (λ t F a. (
         omega (arith, length_lines t),
         λ e. let same = same_row cables_line Any tell_cables tidy_cables (length t.cables) n F.numbers.1.1.1.0 g tt tt (ap (λ k. row (get_or (lines t) k [])) (sym three) ∙ e) in omega (arith, F.cables),
@@ -107,14 +103,14 @@ module _ (d : Draft) (bs rest : List ℕ) (v : Valid d) (o : bs ≡ text (lines_
   over_packets f n more at g u x w =
       let st : Stage section.Packets d = subst (λ s. Stage s d) u v.stage in
       let all : lines_read d ≡ cabled_lines d = ap (λ s. so_far s d) u in
-      let S = fill d d.wires n in
+      let S = fill d d.cable_count n in
       let hn = few_cables d.section d v.stage in
       let hm : length d.packets ≤ n = omega (arith, ap length st.2) in
-      let Z = map packet_line d.packets ++ map packet_line (spare_plans d n) in
+      let Z = map packet_line d.packets ++ map packet_line (spare_packets d n) in
       over f (packets_line n) more S Z at (tidy_packets n g) w
-      (weaker d.wires n (2 ^ 32) (2 ^ 32) S (omega (arith, v.wires)) (omega (arith, g.1.0)) (formed_fill d d.wires n hn hm v (omega (arith, v.wires)) g.1.0 v.uncabled))
-      (lines_fill d d.wires n hn hm
-      ∙ ap (λ y. cabled_lines d ++ (y ++ packets_line n ∷ Z)) (ap (map cable_line) (no_wires d d.wires st.0))
+      (weaker d.cable_count n (2 ^ 32) (2 ^ 32) S (omega (arith, v.cable_count)) (omega (arith, g.1.0)) (formed_fill d d.cable_count n hn hm v (omega (arith, v.cable_count)) g.1.0 v.uncabled))
+      (lines_fill d d.cable_count n hn hm
+      ∙ ap (λ y. cabled_lines d ++ (y ++ packets_line n ∷ Z)) (ap (map cable_line) (no_spare_cables d d.cable_count st.0))
       ∙ sym (append_assoc (cabled_lines d) (packets_line n ∷ []) Z)
       ∙ ap (λ B. (B ++ packets_line n ∷ []) ++ Z) (sym all))
       (λ t F a.
@@ -126,13 +122,9 @@ module _ (d : Draft) (bs rest : List ℕ) (v : Valid d) (o : bs ≡ text (lines_
       ))
 
   overs : (f : Fault) (e : Entry) (more : List ℕ) → told f ≡ too_many (length (lines_read d) + 1) → AllByRecursion Fits (entry_line e) → Suits d e → Exceeds e → rest ≡ written (entry_line e) ++ more → Stops lines Lawful Unlimited bs (length (lines_read d)) f
-  overs f (entry.Shape y) more at g u x w = absurd x
-  overs f (entry.Kind y) more at g u x w = absurd x
-  overs f (entry.Run y) more at g u x w = absurd x
   overs f (entry.Cables n) more at g u x w = over_cables f n more at g u x w
-  overs f (entry.Cable y) more at g u x w = absurd x
   overs f (entry.Packets n) more at g u x w = over_packets f n more at g u x w
-  overs f (entry.Packet y) more at g u x w = absurd x
+  overs f e more at g u x w = absurd x
 
   module _ (short : length bs ≤ 65536) (f : Fault) (k : ℕ) (n : k ≡ length (lines_read d)) where
     -- the line that comes next is refused
@@ -173,10 +165,10 @@ sheet_of d = record { shape = d.shape; kind = d.kind; run = d.run; cables = d.ca
 abbrev with_lists : Draft → List Cable → List Packet → Said
 with_lists d cs ps = record { shape = d.shape; kind = d.kind; run = d.run; cables = cs; packets = ps }
 
-full : (d : Draft) → Stage section.End d → fill d d.wires d.plans ≡ sheet_of d
+full : (d : Draft) → Stage section.End d → fill d d.cable_count d.packet_count ≡ sheet_of d
 full d st =
-    ap (λ x. with_lists d (d.cables ++ x) (d.packets ++ spare_plans d d.plans)) (no_wires d d.wires st.0)
-    ∙ ap (λ x. with_lists d (d.cables ++ []) (d.packets ++ x)) (no_plans d d.plans st.1)
+    ap (λ x. with_lists d (d.cables ++ x) (d.packets ++ spare_packets d d.packet_count)) (no_spare_cables d d.cable_count st.0)
+    ∙ ap (λ x. with_lists d (d.cables ++ []) (d.packets ++ x)) (no_spare_packets d d.packet_count st.1)
     ∙ ap (λ x. with_lists d x (d.packets ++ [])) (append-nil d.cables)
     ∙ ap (with_lists d d.cables) (append-nil d.packets)
 
@@ -191,6 +183,6 @@ finished d bs rest s v o at z short same =
           ∙ ap (λ q. text (lines_read d) ++ q) z
           ∙ append-nil (text (lines_read d))
           ∙ ap (λ x. text (so_far x d)) at
-          ∙ ap (λ k. text (shape_line d.shape ∷ kind_line d.kind ∷ run_line d.run ∷ cables_line k ∷ (map cable_line d.cables ++ packets_line d.plans ∷ map packet_line d.packets))) (sym st.0)
+          ∙ ap (λ k. text (shape_line d.shape ∷ kind_line d.kind ∷ run_line d.run ∷ cables_line k ∷ (map cable_line d.cables ++ packets_line d.packet_count ∷ map packet_line d.packets))) (sym st.0)
           ∙ ap (λ k. text (shape_line d.shape ∷ kind_line d.kind ∷ run_line d.run ∷ cables_line (length d.cables) ∷ (map cable_line d.cables ++ packets_line k ∷ map packet_line d.packets))) (sym st.1),
     )

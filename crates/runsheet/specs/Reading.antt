@@ -1,5 +1,5 @@
 -- How far the reader has come, and what may come next.
-use Rattle.std.specs.Prelude.{◌≡◌, ℕ, ◌<◌, ◌≤◌, cond, ◌⊎◌, List, [], ◌∷◌, ◌++◌, map, length, Result, MatchResult, nat_lt}
+use Rattle.std.specs.Prelude.{◌≡◌, ℕ, ◌<◌, ◌≤◌, cond, ◌⊎◌, List, [], ◌∷◌, ◌++◌, map, length, Option, Some, None, IfSome, IsSomeAnd, Result, MatchResult, nat_lt}
 use Rattle.std.specs.List.{AllByRecursion}
 use Rattle.batch.specs.Items.{items}
 use Rattle.fabric.specs.declared.parts.Cable.{Cable}
@@ -34,9 +34,9 @@ pub record Draft : Type 0 where
   pub shape : Shape
   pub kind : SwitchKind
   pub run : Run
-  pub wires : ℕ
+  pub cable_count : ℕ
   pub cables : List Cable
-  pub plans : ℕ
+  pub packet_count : ℕ
   pub packets : List Packet
   pub last : ℕ
 
@@ -47,9 +47,9 @@ draft r =
       shape = r.shape;
       kind = r.kind;
       run = r.run;
-      wires = r.wires;
+      cable_count = r.cable_count;
       cables = items r.cables;
-      plans = r.plans;
+      packet_count = r.packet_count;
       packets = items r.packets;
       last = r.last;
     }
@@ -79,31 +79,25 @@ Bars section.End d ws = Unit {0}
 abbrev pub Judges : Draft → ℕ → List (List ℕ) → Result Entry Fault → Type 0
 Judges d k ws r = MatchResult r (λ e. (ws ≡ map shown (entry_line e)) × AllByRecursion Fits (entry_line e) × Suits d e) (λ f. (told f ≡ ill_formed k) × Bars d.section d ws)
 
+-- the count that a line tells, and its limit
+abbrev pub count_told : Entry → Option (ℕ × ℕ)
+count_told (entry.Cables n) = Some (n, 128)
+count_told (entry.Packets n) = Some (n, 256)
+count_told e = None
+
 -- a count within its limit, and one above it
 abbrev pub Within : Entry → Type 0
-Within (entry.Shape x) = Unit {0}
-Within (entry.Kind x) = Unit {0}
-Within (entry.Run x) = Unit {0}
-Within (entry.Cables n) = n ≤ 128
-Within (entry.Cable x) = Unit {0}
-Within (entry.Packets n) = n ≤ 256
-Within (entry.Packet x) = Unit {0}
+Within e = IfSome (count_told e) (λ c. c.0 ≤ c.1)
 
 abbrev pub Exceeds : Entry → Type 0
-Exceeds (entry.Shape x) = ⊥
-Exceeds (entry.Kind x) = ⊥
-Exceeds (entry.Run x) = ⊥
-Exceeds (entry.Cables n) = 128 < n
-Exceeds (entry.Cable x) = ⊥
-Exceeds (entry.Packets n) = 256 < n
-Exceeds (entry.Packet x) = ⊥
+Exceeds e = IsSomeAnd (count_told e) (λ c. c.1 < c.0)
 
 -- the lines that were read
 abbrev pub cabled_lines : Draft → List (List Field)
-cabled_lines d = shape_line d.shape ∷ kind_line d.kind ∷ run_line d.run ∷ cables_line d.wires ∷ map cable_line d.cables
+cabled_lines d = shape_line d.shape ∷ kind_line d.kind ∷ run_line d.run ∷ cables_line d.cable_count ∷ map cable_line d.cables
 
 abbrev pub all_lines : Draft → List (List Field)
-all_lines d = cabled_lines d ++ packets_line d.plans ∷ map packet_line d.packets
+all_lines d = cabled_lines d ++ packets_line d.packet_count ∷ map packet_line d.packets
 
 abbrev pub so_far : Section → Draft → List (List Field)
 so_far section.Layout d = []
@@ -120,9 +114,9 @@ lines_read d = so_far d.section d
 
 -- no cable and no packet was read, or their counts
 pub record Bare (d : Draft) : Type 0 where
-  pub wires : d.wires ≡ 0
+  pub cable_count : d.cable_count ≡ 0
   pub cables : d.cables ≡ []
-  pub plans : d.plans ≡ 0
+  pub packet_count : d.packet_count ≡ 0
   pub packets : d.packets ≡ []
 
 -- what the section says of the lists
@@ -131,10 +125,10 @@ Stage section.Layout d = Bare d
 Stage section.Switch d = Bare d
 Stage section.Run d = Bare d
 Stage section.Cables d = Bare d
-Stage section.Cable d = (length d.cables < d.wires) × (d.plans ≡ 0) × (d.packets ≡ [])
-Stage section.Packets d = (length d.cables ≡ d.wires) × (d.plans ≡ 0) × (d.packets ≡ [])
-Stage section.Packet d = (length d.cables ≡ d.wires) × (length d.packets < d.plans)
-Stage section.End d = (length d.cables ≡ d.wires) × (length d.packets ≡ d.plans)
+Stage section.Cable d = (length d.cables < d.cable_count) × (d.packet_count ≡ 0) × (d.packets ≡ [])
+Stage section.Packets d = (length d.cables ≡ d.cable_count) × (d.packet_count ≡ 0) × (d.packets ≡ [])
+Stage section.Packet d = (length d.cables ≡ d.cable_count) × (length d.packets < d.packet_count)
+Stage section.End d = (length d.cables ≡ d.cable_count) × (length d.packets ≡ d.packet_count)
 
 -- the cycle of the last packet, c where there is none
 abbrev pub latest : ℕ → List Packet → ℕ
@@ -145,10 +139,10 @@ pub record Valid (d : Draft) : Type 0 where
   pub shape : AllByRecursion Fits (shape_line d.shape)
   pub run : AllByRecursion Fits (run_line d.run)
   pub cycles : Brief d.run
-  pub uncabled : Uncabled d.shape d.wires
-  pub wires : d.wires ≤ 128
+  pub uncabled : Uncabled d.shape d.cable_count
+  pub cable_count : d.cable_count ≤ 128
   pub cables : AllByRecursion (λ x. AllByRecursion Fits (cable_line x)) d.cables
-  pub plans : d.plans ≤ 256
+  pub packet_count : d.packet_count ≤ 256
   pub packets : AllByRecursion (λ x. AllByRecursion Fits (packet_line x)) d.packets
   pub sized : AllByRecursion Sized d.packets
   pub rising : Rising 0 d.packets

@@ -3,7 +3,7 @@ ghost use Rattle.std.specs.Prelude.{◌≡◌, length, MatchResult};
 ghost use Rattle.std.specs.List.{AllByRecursion};
 ghost use Rattle.batch.specs.Items.{items};
 ghost use Rattle.text.specs.Faults.{told, too_many};
-ghost use Rattle.text.specs.Fields.{words};
+ghost use Rattle.text.specs.Fields.{words, line_number};
 ghost use Rattle.text.specs.Texts.{Fits};
 ghost use Rattle.runsheet.specs.Said.{said};
 ghost use Rattle.runsheet.specs.Sheets.{SheetText, Refused, OneSheet};
@@ -45,7 +45,7 @@ enum Entry {
 
 // A count over its limit is refused only where its line is of its form.
 fn check_limit(entry: Entry, line: &Fields) -> Result<(), Fault>
-    ensures { MatchResult result (λ _. Within entry) (λ f. (told f ≡ too_many line.now.line) × Exceeds entry) }
+    ensures { MatchResult result (λ _. Within entry) (λ f. (told f ≡ too_many (line_number line.now)) × Exceeds entry) }
 {
     let (count, most) = match entry {
         Entry::Cables(count) => (count, MOST_CABLES),
@@ -70,7 +70,7 @@ fn go_on<T: Copy, const N: usize>(
     if list.len() < told { item } else { past }
 }
 
-// What was read of a sheet; of its cables and packets the first of as many as were told, `wires` and `plans`.
+// What was read of a sheet; of its cables and packets the first of as many as were told, `cable_count` and `packet_count`.
 #[derive(Drop)]
 struct Reader {
     section: Section,
@@ -78,9 +78,9 @@ struct Reader {
     kind: SwitchKind,
     run: Run,
     cables: Batch<Cable, MOST_CABLES>,
-    wires: usize,
+    cable_count: usize,
     packets: Batch<Packet, MOST_PACKETS>,
-    plans: usize,
+    packet_count: usize,
     // the cycle of the last packet
     last: u32,
 }
@@ -97,9 +97,9 @@ impl Reader {
             kind: SwitchKind::default(),
             run: Run::default(),
             cables: Batch::new(Cable::default()),
-            wires: 0,
+            cable_count: 0,
             packets: Batch::new(Packet::default()),
-            plans: 0,
+            packet_count: 0,
             last: 0,
         }
     }
@@ -107,7 +107,7 @@ impl Reader {
     // What the next line says. A cable and a packet have no fixed first word, so their lines are
     // read from the start.
     fn entry(&self, line: &Fields) -> Result<Entry, Fault>
-        ensures { Judges (draft self.now) line.now.line (words line.now) result }
+        ensures { Judges (draft self.now) (line_number line.now) (words line.now) result }
     {
         let mut fields = *line;
         let word = fields.word()?;
@@ -148,21 +148,23 @@ impl Reader {
                 self.section = Section::Cables;
             }
             Entry::Cables(count) => {
-                self.wires = count;
+                self.cable_count = count;
                 self.section = go_on(&self.cables, count, Section::Cable, Section::Packets);
             }
             Entry::Cable(cable) => {
                 self.cables.push(cable).unwrap();
-                self.section = go_on(&self.cables, self.wires, Section::Cable, Section::Packets);
+                let count = self.cable_count;
+                self.section = go_on(&self.cables, count, Section::Cable, Section::Packets);
             }
             Entry::Packets(count) => {
-                self.plans = count;
+                self.packet_count = count;
                 self.section = go_on(&self.packets, count, Section::Packet, Section::End);
             }
             Entry::Packet(packet) => {
                 self.packets.push(packet).unwrap();
                 self.last = packet.cycle;
-                self.section = go_on(&self.packets, self.plans, Section::Packet, Section::End);
+                let count = self.packet_count;
+                self.section = go_on(&self.packets, count, Section::Packet, Section::End);
             }
         }
     }
@@ -170,7 +172,7 @@ impl Reader {
     // Reads the next line.
     fn step(&mut self, line: &Fields) -> Result<(), Fault>
         requires { Valid (draft self.old) }
-        ensures { MatchResult result (λ _. Reached (draft self.old) (draft self.new) (words line.now)) (λ f. Refuses (draft self.old) line.now.line (words line.now) f) }
+        ensures { MatchResult result (λ _. Reached (draft self.old) (draft self.new) (words line.now)) (λ f. Refuses (draft self.old) (line_number line.now) (words line.now) f) }
     {
         let entry = self.entry(line)?;
         check_limit(entry, line)?;

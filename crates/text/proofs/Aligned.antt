@@ -16,8 +16,13 @@ cut (x ∷ a) (y ∷ b) s t f g e =
     let k = cut a b s t f.1 g.1 (ap (drop 1) e) in
     (ap (λ z. z ∷ a) (ap (λ l. get_or l 0 x) e) ∙ ap (λ l. y ∷ l) k.0, k.1)
 
-pub spread : (l : List Field) (J r : List ℕ) → (written l ++ J) ++ r ≡ row l ++ 10 ∷ (J ++ r)
-spread l J r = append_assoc (written l) J r ∙ append_assoc (row l) (10 ∷ []) (J ++ r)
+-- the bytes of a line and what follows it
+pub ended : (l : List Field) (more : List ℕ) → written l ++ more ≡ row l ++ 10 ∷ more
+ended l more = append_assoc (row l) (10 ∷ []) more
+
+-- and two texts that follow it
+pub ended_both : (l : List Field) (J r : List ℕ) → (written l ++ J) ++ r ≡ row l ++ 10 ∷ (J ++ r)
+ended_both l J r = append_assoc (written l) J r ∙ ended l (J ++ r)
 
 abbrev pub Agree : List (List Field) → List (List Field) → ℕ → Type 0
 Agree A B k = (j : ℕ) → j < k → row (get_or A j []) ≡ row (get_or B j [])
@@ -31,7 +36,7 @@ pub aligned : (A B : List (List Field)) (r s : List ℕ) → AllByRecursion Tidy
 aligned [] B r s f g l e = ((λ j k. absurd (let z : ⊥ = omega arith in z)), e)
 aligned (a ∷ A) [] r s f g l e = absurd (let z : ⊥ = omega arith in z)
 aligned (a ∷ A) (b ∷ B) r s f g l e =
-    let k = cut (row a) (row b) (text A ++ r) (text B ++ s) f.0.ends g.0.ends (sym (spread a (text A) r) ∙ e ∙ spread b (text B) s) in
+    let k = cut (row a) (row b) (text A ++ r) (text B ++ s) f.0.ends g.0.ends (sym (ended_both a (text A) r) ∙ e ∙ ended_both b (text B) s) in
     let h = aligned A B r s f.1 g.1 (omega arith) k.1 in
     (agree_more a b A B (length A) k.0 h.0, h.1)
 
@@ -45,7 +50,7 @@ Matched A L rest = Agree A L (length A) × Next L (length A) rest
 none_joined : (B : List (List Field)) (r : List ℕ) → [] ≡ text B ++ r → (B ≡ []) × (r ≡ [])
 none_joined [] r e = (refl, sym e)
 none_joined (b ∷ B) r e =
-    absurd (let z : ⊥ = omega (arith, ap length (e ∙ spread b (text B) r), length-append (row b) (10 ∷ (text B ++ r))) in z)
+    absurd (let z : ⊥ = omega (arith, ap length (e ∙ ended_both b (text B) r), length-append (row b) (10 ∷ (text B ++ r))) in z)
 
 pub matched : (A L : List (List Field)) (rest s : List ℕ) → AllByRecursion Tidy A → AllByRecursion Tidy L → text A ++ rest ≡ text (take (length A + 1) L) ++ s → (length L < length A + 1 → s ≡ []) → Matched A L rest
 matched A L rest s f g e n =

@@ -1,10 +1,10 @@
--- The exit of a `?` in the reading of a line, and the fields that follow those read.
-use Rattle.std.proofs.Common.{◌≡◌, ℕ, List, ◌∷◌, ◌++◌, map, get_or, drop, Ok, Err, Result, Option, None, Some, sym, refl, ap, ◌∙◌, subst, MatchResult}
+-- The exit of a `?` in the reading of a line.
+use Rattle.std.proofs.Common.{◌≡◌, ℕ, List, ◌++◌, map, Ok, Err, Result, Option, None, Some, sym, refl, ◌∙◌, subst, MatchResult}
 use Rattle.std.specs.List.{AllByRecursion}
 use Rattle.std.specs.Option.{ok_or}
 use Rattle.std.specs.Result.{IsErrAnd}
 use Rattle.text.specs.Texts.{Field, Fits, shown}
-use Rattle.text.specs.Fields.{words, Unlike, Reads, Begins}
+use Rattle.text.specs.Fields.{words, line_number, Unlike, Reads, Begins}
 use Rattle.text.specs.Faults.{told, ill_formed}
 use Rattle.text.specs.declared.fault.Fault.{Fault}
 use Rattle.text.specs.declared.field.Fields.{Fields}
@@ -42,15 +42,5 @@ pub passed : {A : Type 0} (line : A → List Field) (P : A → Type 0) (ws : Lis
 passed line P ws k r f p at none = err_at _ _ r f p (at, none)
 
 pub opened : {A : Type 0} (part : A → List Field) (P : A → Type 0) (old new : Fields) (r : Result A Fault) (f : Fault) →
-    Passes r f → told f ≡ ill_formed old.line → ((x : A) (vs : List (List ℕ)) → AllByRecursion Fits (part x) → P x → words old ≡ map shown (part x) ++ vs → ⊥) → new.line ≡ old.line → Begins part P old new r
+    Passes r f → told f ≡ ill_formed (line_number old) → ((x : A) (vs : List (List ℕ)) → AllByRecursion Fits (part x) → P x → words old ≡ map shown (part x) ++ vs → ⊥) → line_number new ≡ line_number old → Begins part P old new r
 opened part P old new r f p at none line = (err_at _ _ r f p (at, none), line)
-
--- what follows the first of a list
-pub rest_of : {X : Type 0} {x y : X} {xs ys : List X} → x ∷ xs ≡ y ∷ ys → xs ≡ ys
-rest_of e = ap (drop 1) e
-
-pub after : {X : Type 0} {ws : List X} {x y : X} {xs ys : List X} → ws ≡ x ∷ xs → ws ≡ y ∷ ys → xs ≡ ys
-after h e = rest_of (sym h ∙ e)
-
-pub first_of : {X : Type 0} {ws : List X} {x y : X} {xs ys : List X} → ws ≡ x ∷ xs → ws ≡ y ∷ ys → x ≡ y
-first_of {x} h e = ap (λ l. get_or l 0 x) (sym h ∙ e)

@@ -4,19 +4,15 @@ use Rattle.std.specs.List.{AllByRecursion}
 use Rattle.std.proofs.lemmas.List.{append-nil, get_or_past, length-append, length-map, length-take-le, get_or_append_left, get_or-map, get_or-take, drop_at, drop_more, nil_from_length}
 use Rattle.std.proofs.Permutation.{every_at}
 use Rattle.std.proofs.lemmas.Fmt.{decimal_injective}
-use Rattle.text.specs.Texts.{Fits, number, shown}
+use Rattle.text.specs.Texts.{Fits, number, shown, figures}
 use Rattle.text.specs.Lines.{packet_line, Blank}
 use Rattle.text.specs.declared.parts.Packet.{Packet}
-
--- the numbers as words
-abbrev pub figures : List ℕ → List (List ℕ)
-figures ns = map shown (map number ns)
 
 pub length_figures : (ns : List ℕ) → length (figures ns) ≡ length ns
 length_figures ns = length-map (map number ns) shown ∙ length-map ns number
 
-getD_figures : (ns : List ℕ) (i : ℕ) → i < length ns → get_or (figures ns) i [] ≡ decimal (get_or ns i 0)
-getD_figures ns i l =
+get_or_figures : (ns : List ℕ) (i : ℕ) → i < length ns → get_or (figures ns) i [] ≡ decimal (get_or ns i 0)
+get_or_figures ns i l =
     get_or-map shown (map number ns) i (number 0) [] (subst (λ n. i < n) (sym (length-map ns number)) l)
     ∙ ap shown (get_or-map number ns i 0 (number 0) l)
 
@@ -24,7 +20,7 @@ getD_figures ns i l =
 pub figure_at : (ns : List ℕ) (k i : ℕ) (more : List (List ℕ)) → i < k → k ≤ length ns → get_or (figures (take k ns) ++ more) i [] ≡ decimal (get_or ns i 0)
 figure_at ns k i more l m =
     let b : length (figures (take k ns)) ≡ k = length_figures (take k ns) ∙ length-take-le k ns m in
-    get_or_append_left (figures (take k ns)) more [] i (omega arith) ∙ getD_figures (take k ns) i (omega (arith, length-take-le k ns m)) ∙ ap decimal (get_or-take k ns i 0 l)
+    get_or_append_left (figures (take k ns)) more [] i (omega arith) ∙ get_or_figures (take k ns) i (omega (arith, length-take-le k ns m)) ∙ ap decimal (get_or-take k ns i 0 l)
 
 -- there are zeros from the end of a list on
 pub blank_at_end : (ns : List ℕ) → Blank (length ns) ns

@@ -8,4 +8,3 @@ pub mod Single
 pub mod Stopping
 pub mod Tidy
 pub mod Values
-pub mod Words

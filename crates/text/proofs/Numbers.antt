@@ -8,6 +8,7 @@ use Rattle.std.proofs.lemmas.Fmt.{digits_decimal, digits_value-decimal, decimal_
 use Rattle.std.proofs.lemmas.Str.{IsUtf8-from_ascii}
 use Rattle.std.proofs.lemmas.Bool.{cases_lt}
 use Rattle.std.proofs.lemmas.Grind.{common_steps}
+use Rattle.text.specs.Fields.{Unwritten}
 
 pub own : IsNumeralModel (AllDigits 10) (digits_value 10)
 own = numerals_by_value (AllDigits 10) tells_digits
@@ -34,10 +35,6 @@ writes n h =
       some = decimal_nonempty n (omega arith);
       first = leads n h;
     }
-
--- a word that no number writes
-abbrev pub Unwritten : List ℕ → Type 0
-Unwritten ds = (n : ℕ) → n < 2 ^ 32 → ds ≡ decimal n → ⊥
 
 unwritten : (ds : List ℕ) → ((n : ℕ) → n < 2 ^ 32 → Writes ds n → ⊥) → Unwritten ds
 unwritten ds f n h e = f n h (subst (λ x. Writes x n) (sym e) (writes n h))

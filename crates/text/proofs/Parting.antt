@@ -1,7 +1,7 @@
 -- Parting a text by a byte, and joining the parts by it.
 use Rattle.std.proofs.Common.{◌≡◌, ℕ, ◌+◌, ◌<◌, ◌≤◌, eqb, List, [], ◌∷◌, ◌++◌, length, get_or, take, drop, sym, refl, ap, ◌∙◌, subst, Option, None, Some, Bor, true, false, arith}
 use Rattle.std.specs.List.{position, position_or_len, AllByRecursion, join_with_byte}
-use Rattle.std.specs.Option.{is_some, option_map_or, unwrap_or}
+use Rattle.std.specs.Option.{is_some, unwrap_or}
 use Rattle.std.specs.Slice.{IsGetRangeResult}
 use Rattle.std.proofs.lemmas.List.{append-nil, take-append-drop, drop_more, take_all, take_rest, length-take-le, get_or-take}
 use Rattle.std.proofs.lemmas.List.Elements.{All-from_recursion}
@@ -12,6 +12,7 @@ use Rattle.std.proofs.lemmas.Grind.{common_steps}
 use Rattle.std.proofs.Permutation.{every_of}
 use Rattle.std.proofs.lemmas.Bool.{eq-eqb, ne_eqb, eqb-true, false≢true}
 use Rattle.text.specs.Texts.{parted, spaced, Free}
+use Rattle.text.specs.Fields.{left}
 
 -- b is not among these bytes, as the library says it
 apart : (b : ℕ) (w : List ℕ) → Free b w → AllByRecursion (λ x. eqb x b ≡ false) w
@@ -68,10 +69,6 @@ spaced_parted s = joined (parted 32 s) ∙ join_with_byte-slice_split 32 s
 -- a text has a part
 pub parted_not_none : (b : ℕ) (s : List ℕ) → parted b s ≡ [] → ⊥
 parted_not_none b s e = omega (arith, length-slice_split (λ x. eqb x b) s, ap length e)
-
--- the parts of what is left of a line
-abbrev pub left : Option (Bor (List ℕ)) → List (List ℕ)
-left r = option_map_or (λ x. parted 32 x.now) r []
 
 pub left_some : (r : Option (Bor (List ℕ))) → is_some r ≡ true → left r ≡ [] → ⊥
 left_some None h e = false≢true h

@@ -8,7 +8,7 @@ use Rattle.text.specs.Texts.{Field, shown, row, written, text}
 use Rattle.text.specs.Faults.{told, Along, Stops, Faulty}
 use Rattle.text.specs.declared.fault.Fault.{Fault}
 use Rattle.text.proofs.Tidy.{Tidy, same_words}
-use Rattle.text.proofs.Aligned.{cut}
+use Rattle.text.proofs.Aligned.{cut, ended}
 use Rattle.text.proofs.Stopping.{shorter}
 
 -- the words of tidy lines can be told from their text
@@ -17,7 +17,7 @@ same_text [] [] s t e = refl
 same_text [] (b ∷ B) s t e = absurd (let z : ⊥ = omega (arith, shorter b [] (text B) e) in z)
 same_text (a ∷ A) [] s t e = absurd (let z : ⊥ = omega (arith, shorter a [] (text A) (sym e)) in z)
 same_text (a ∷ A) (b ∷ B) s t e =
-    let k = cut (row a) (row b) (text A) (text B) s.0.ends t.0.ends (sym (append_assoc (row a) (10 ∷ []) (text A)) ∙ e ∙ append_assoc (row b) (10 ∷ []) (text B)) in
+    let k = cut (row a) (row b) (text A) (text B) s.0.ends t.0.ends (sym (ended a (text A)) ∙ e ∙ ended b (text B)) in
     ap₂ (λ (w : List (List ℕ)) (ws : List (List (List ℕ))). w ∷ ws) (same_words a b s.0 t.0 k.0) (same_text A B s.1 t.1 k.1)
 
 module _ {D : Type 0} (lines : D → List (List Field)) where

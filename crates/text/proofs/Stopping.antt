@@ -2,14 +2,14 @@
 use Rattle.std.proofs.Common.{◌≡◌, ◌≢◌, ℕ, ◌+◌, ◌-◌, ◌<◌, eqb, List, [], ◌∷◌, ◌++◌, map, length, take, drop, Some, sym, refl, ap, ◌∙◌, subst, inl, append_assoc, arith}
 use Rattle.std.specs.List.{position, AllByRecursion}
 use Rattle.std.proofs.lemmas.List.{take-append-drop, take_rest, drop_more, take_at, length-append, flat_map_more}
-use Rattle.text.specs.Texts.{Field, Fits, Free, Lined, Barred, shown, spaced, row, written, text, parted}
+use Rattle.text.specs.Texts.{Field, Fits, Free, Lined, shown, spaced, row, written, text, parted}
 use Rattle.text.specs.Fields.{Unlike}
 use Rattle.text.specs.Faults.{told, ill_formed, GoesOn, Stops}
 use Rattle.text.specs.declared.fault.Fault.{Fault}
 use Rattle.text.proofs.Parting.{first_at, spaced_parted}
 use Rattle.text.proofs.Lists.{all_right}
 use Rattle.text.proofs.Tidy.{Tidy}
-use Rattle.text.proofs.Aligned.{cut, Matched, matched}
+use Rattle.text.proofs.Aligned.{cut, ended, Matched, matched}
 
 -- up to the first byte 10, at index `end`
 pub lined : (rest : List ℕ) (end : ℕ) (ws : List (List ℕ)) → position (λ x. eqb x 10) rest ≡ Some end → ws ≡ parted 32 (take end rest) →
@@ -27,23 +27,27 @@ pub is_line : (l : List Field) (rest more : List ℕ) (ws : List (List ℕ)) →
 is_line l rest more ws n e =
     n.1
     ∙ ap (λ x. x ++ 10 ∷ more) (sym (spaced_parted n.0) ∙ ap spaced (sym n.3 ∙ e))
-    ∙ sym (append_assoc (row l) (10 ∷ []) more)
+    ∙ sym (ended l more)
 
 -- one line more
 pub onward : (A B : List (List Field)) (l : List Field) (bs rest more : List ℕ) → bs ≡ text A ++ rest → B ≡ A ++ l ∷ [] → rest ≡ written l ++ more → bs ≡ text B ++ more
 onward A B l bs rest more e g h = e ∙ ap (λ q. text A ++ q) h ∙ sym (append_assoc (text A) (written l) more) ∙ ap (λ q. q ++ more) (flat_map_more written [] A l ∙ ap text (sym g))
 
 pub shorter : (l : List Field) (rest more : List ℕ) → rest ≡ written l ++ more → length more < length rest
-shorter l rest more e = omega (arith, ap length (e ∙ append_assoc (row l) (10 ∷ []) more), length-append (row l) (10 ∷ more))
+shorter l rest more e = omega (arith, ap length (e ∙ ended l more), length-append (row l) (10 ∷ more))
+
+-- the text begins with no line of the kind
+abbrev pub Barred : {X : Type 0} → (X → List Field) → (X → Type 0) → List ℕ → Type 0
+Barred {X} line P t = (x : X) (more : List ℕ) → AllByRecursion Fits (line x) → P x → t ≢ written (line x) ++ more
 
 module _ {X : Type 0} (line : X → List Field) (P : X → Type 0) (rest : List ℕ) where
   pub no_line : Free 10 rest → Barred line P rest
-  no_line f x more h p e = (all_right (λ x. x ≢ 10) (row (line x)) (10 ∷ more) (subst (Free 10) (e ∙ append_assoc (row (line x)) (10 ∷ []) more) f)).0 refl
+  no_line f x more h p e = (all_right (λ x. x ≢ 10) (row (line x)) (10 ∷ more) (subst (Free 10) (e ∙ ended (line x) more) f)).0 refl
 
   pub other_line : ((x : X) → AllByRecursion Fits (line x) → Tidy (line x)) → (ws : List (List ℕ)) (more : List ℕ) → Lined rest ws more → Unlike line P ws → Barred line P rest
   other_line t ws more n none x m h p e =
       let T = t x h in
-      let same = (cut n.0 (row (line x)) more m n.2 T.ends (sym n.1 ∙ e ∙ append_assoc (row (line x)) (10 ∷ []) m)).0 in
+      let same = (cut n.0 (row (line x)) more m n.2 T.ends (sym n.1 ∙ e ∙ ended (line x) m)).0 in
       none x h p (n.3 ∙ ap (parted 32) same ∙ T.parts)
 
 -- the lines A were read

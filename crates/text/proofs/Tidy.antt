@@ -1,9 +1,9 @@
 -- A line's fields can be told from its bytes: no field holds a space or a byte 10.
 use Rattle.std.proofs.Common.{◌≡◌, ℕ, ◌^◌, ◌<◌, List, [], ◌∷◌, map, decimal, sym, ap, ◌∙◌, arith}
-use Rattle.std.specs.List.{flat_map, AllByRecursion}
+use Rattle.std.specs.List.{AllByRecursion}
 use Rattle.std.proofs.lemmas.Str.Parse.{digit_at}
 use Rattle.std.proofs.Permutation.{every_append, every_of}
-use Rattle.text.specs.Texts.{Field, word, number, shown, Fits, Free, row, parted}
+use Rattle.text.specs.Texts.{Field, word, number, shown, Fits, Free, after_spaces, row, parted}
 use Rattle.text.specs.Lines.{shape_line, kind_word, kind_line, run_line, cables_line, cable_line, packets_line, payload, packet_line}
 use Rattle.text.specs.declared.parts.Shape.{Shape}
 use Rattle.text.specs.declared.parts.Shape.TheVariants.{Mesh, Cabled}
@@ -38,9 +38,9 @@ all_32 : (fs : List Field) → AllByRecursion Fits fs → AllByRecursion Plain f
 all_32 [] h p = tt
 all_32 (f ∷ fs) h p = (free_32 f h.0 p.0, all_32 fs h.1 p.1)
 
-joined_free : (fs : List Field) → AllByRecursion Fits fs → AllByRecursion Plain fs → Free 10 (flat_map (λ v. 32 ∷ v) (map shown fs))
+joined_free : (fs : List Field) → AllByRecursion Fits fs → AllByRecursion Plain fs → Free 10 (after_spaces (map shown fs))
 joined_free [] h p = tt
-joined_free (f ∷ fs) h p = (omega arith, every_append (λ x. x ≡ 10 → ⊥) (shown f) (flat_map (λ v. 32 ∷ v) (map shown fs)) (free_10 f h.0 p.0) (joined_free fs h.1 p.1))
+joined_free (f ∷ fs) h p = (omega arith, every_append (λ x. x ≡ 10 → ⊥) (shown f) (after_spaces (map shown fs)) (free_10 f h.0 p.0) (joined_free fs h.1 p.1))
 
 pub record Tidy (fs : List Field) : Type 0 where
   pub ends : Free 10 (row fs)
@@ -49,7 +49,7 @@ pub record Tidy (fs : List Field) : Type 0 where
 pub tidy : (f : Field) (fs : List Field) → AllByRecursion Fits (f ∷ fs) → AllByRecursion Plain (f ∷ fs) → Tidy (f ∷ fs)
 tidy f fs h p =
     record {
-      ends = every_append (λ x. x ≡ 10 → ⊥) (shown f) (flat_map (λ v. 32 ∷ v) (map shown fs)) (free_10 f h.0 p.0) (joined_free fs h.1 p.1);
+      ends = every_append (λ x. x ≡ 10 → ⊥) (shown f) (after_spaces (map shown fs)) (free_10 f h.0 p.0) (joined_free fs h.1 p.1);
       parts = parted_spaced (shown f) (map shown fs) (all_32 (f ∷ fs) h p);
     }
 

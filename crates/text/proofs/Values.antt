@@ -8,13 +8,11 @@ use Rattle.fabric.specs.Ports.{letter}
 use Rattle.fabric.specs.declared.parts.Port.{Port}
 use Rattle.fabric.specs.declared.parts.Port.TheVariants.{N, E, S, W}
 use Rattle.fabric.specs.declared.parts.Slot.{Slot}
-use Rattle.text.specs.Texts.{Field, number, shown, Fits, row, Any}
+use Rattle.text.specs.Texts.{Field, number, shown, Fits, row, figures, Any}
 use Rattle.text.specs.Lines.{shape_line, kind_word, kind_line, run_line, cables_line, cable_line, packets_line, payload, packet_line, Sized}
 use Rattle.text.specs.declared.parts.Shape.TheVariants.{Mesh, Cabled}
 use Rattle.text.specs.declared.parts.SwitchKind.{SwitchKind}
 use Rattle.text.specs.declared.parts.SwitchKind.TheVariants.{Chipper, Bless}
-use Rattle.text.proofs.Figures.{figures}
-use Rattle.text.proofs.Words.{mesh_apart}
 use Rattle.text.proofs.Tidy.{Tidy, same_words}
 
 -- two values of a kind with the same words are one
@@ -28,33 +26,33 @@ at i ws = get_or ws i []
 number_at : (i m n : ℕ) (ws vs : List (List ℕ)) → m < 2 ^ 32 → n < 2 ^ 32 → at i ws ≡ decimal m → at i vs ≡ decimal n → ws ≡ vs → m ≡ n
 number_at i m n ws vs h k a b e = decimal_injective m n (omega arith) (omega arith) (sym a ∙ ap (at i) e ∙ b)
 
-abbrev port_of : List ℕ → Port
-port_of w = let x = get_or w 0 0 in cond (eqb x 78) N (cond (eqb x 69) E (cond (eqb x 83) S W))
+abbrev port_by_letter : List ℕ → Port
+port_by_letter w = let x = get_or w 0 0 in cond (eqb x 78) N (cond (eqb x 69) E (cond (eqb x 83) S W))
 
-port_letter : (p : Port) → port_of (letter p) ≡ p
-port_letter N = refl
-port_letter E = refl
-port_letter S = refl
-port_letter W = refl
+by_letter : (p : Port) → port_by_letter (letter p) ≡ p
+by_letter N = refl
+by_letter E = refl
+by_letter S = refl
+by_letter W = refl
 
 same_port : (p q : Port) → letter p ≡ letter q → p ≡ q
-same_port p q e = sym (port_letter p) ∙ ap port_of e ∙ port_letter q
+same_port p q e = sym (by_letter p) ∙ ap port_by_letter e ∙ by_letter q
 
-abbrev kind_of : List ℕ → SwitchKind
-kind_of w = cond (eqb (get_or w 0 0) 99) Chipper Bless
+abbrev kind_by_word : List ℕ → SwitchKind
+kind_by_word w = cond (eqb (get_or w 0 0) 99) Chipper Bless
 
-kind_letter : (k : SwitchKind) → kind_of (kind_word k) ≡ k
-kind_letter Chipper = refl
-kind_letter Bless = refl
+by_word : (k : SwitchKind) → kind_by_word (kind_word k) ≡ k
+by_word Chipper = refl
+by_word Bless = refl
 
 pub tell_shape : Telling shape_line Any
 tell_shape (Mesh w h) (Mesh v i) f g a b e = ap₂ Mesh (number_at 1 w v _ _ f.1.0 g.1.0 refl refl e) (number_at 2 h i _ _ f.1.1.0 g.1.1.0 refl refl e)
-tell_shape (Mesh w h) (Cabled n) f g a b e = absurd (mesh_apart _ _ e)
-tell_shape (Cabled m) (Mesh v i) f g a b e = absurd (mesh_apart _ _ (sym e))
+tell_shape (Mesh w h) (Cabled n) f g a b e = cc
+tell_shape (Cabled m) (Mesh v i) f g a b e = cc
 tell_shape (Cabled m) (Cabled n) f g a b e = ap Cabled (number_at 1 m n _ _ f.1.0 g.1.0 refl refl e)
 
 pub tell_kind : Telling kind_line Any
-tell_kind x y f g a b e = sym (kind_letter x) ∙ ap (λ ws. kind_of (at 1 ws)) e ∙ kind_letter y
+tell_kind x y f g a b e = sym (by_word x) ∙ ap (λ ws. kind_by_word (at 1 ws)) e ∙ by_word y
 
 pub tell_run : Telling run_line Any
 tell_run x y f g a b e = λ i. record {

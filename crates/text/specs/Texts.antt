@@ -17,10 +17,18 @@ abbrev pub Fits : Field → Type 0
 Fits (word w) = Unit {0}
 Fits (number n) = n < 2 ^ 32
 
+-- numbers as words
+abbrev pub figures : List ℕ → List (List ℕ)
+figures ns = map shown (map number ns)
+
+-- words, each after a space
+abbrev pub after_spaces : List (List ℕ) → List ℕ
+after_spaces ws = flat_map (λ v. 32 ∷ v) ws
+
 -- words parted by one space
 abbrev pub spaced : List (List ℕ) → List ℕ
 spaced [] = []
-spaced (w ∷ ws) = w ++ flat_map (λ v. 32 ∷ v) ws
+spaced (w ∷ ws) = w ++ after_spaces ws
 
 -- a line's bytes, and those with the byte 10 that ends it
 abbrev pub row : List Field → List ℕ
@@ -48,7 +56,3 @@ Lined t ws more = (l : List ℕ) × (t ≡ l ++ 10 ∷ more) × Free 10 l × (ws
 -- for kinds of lines that are bound by nothing but their form
 abbrev pub Any : {X : Type 0} → X → Type 0
 Any x = Unit {0}
-
--- the text begins with no line of the kind
-abbrev pub Barred : {X : Type 0} → (X → List Field) → (X → Type 0) → List ℕ → Type 0
-Barred {X} line P t = (x : X) (more : List ℕ) → AllByRecursion Fits (line x) → P x → t ≢ written (line x) ++ more

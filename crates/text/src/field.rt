@@ -1,9 +1,9 @@
 // The fields of a line, one after another.
-ghost use Rattle.std.specs.Prelude.{◌≡◌, ◌==◌, [], ◌∷◌, Decides, MatchResult, ◌≢◌};
+ghost use Rattle.std.specs.Prelude.{◌≡◌, ◌==◌, Decides};
 ghost use Rattle.std.specs.List.{position};
 ghost use Rattle.text.specs.Faults.{told, ill_formed, too_many};
 ghost use Rattle.text.specs.Texts.{parted, Any};
-ghost use Rattle.text.specs.Fields.{words, Begins};
+ghost use Rattle.text.specs.Fields.{words, line_number, NextWord, AtEnd, Begins};
 ghost use Rattle.text.specs.Lines.{number_field, port_field};
 
 use super::fault::Fault;
@@ -34,7 +34,7 @@ pub struct Fields<'a> {
 impl<'a> Fields<'a> {
     pub(crate) fn new(text: &'a [u8], line: u32) -> Fields<'a>
         ensures words { words result ≡ parted 32 text.now }
-        ensures line { result.line ≡ line }
+        ensures line { line_number result ≡ line }
     {
         Fields {
             rest: Some(text),
@@ -44,8 +44,8 @@ impl<'a> Fields<'a> {
 
     // The next field.
     pub fn word(&mut self) -> Result<&'a [u8], Fault>
-        ensures words { MatchResult result (λ w. words self.old ≡ w.now ∷ words self.new) (λ f. (told f ≡ ill_formed self.old.line) × (words self.old ≡ []) × (self.new ≡ self.old)) }
-        ensures line { self.new.line ≡ self.old.line }
+        ensures words { NextWord self.old self.new result }
+        ensures line { line_number self.new ≡ line_number self.old }
     {
         let rest = self.rest.ok_or(self.fault())?;
         let end = find(rest, b' ').unwrap_or(rest.len());
@@ -76,21 +76,21 @@ impl<'a> Fields<'a> {
 
     // The line is not of its form.
     pub fn fault(&self) -> Fault
-        ensures { told result ≡ ill_formed self.now.line }
+        ensures { told result ≡ ill_formed (line_number self.now) }
     {
         Fault::ill_formed(self.line)
     }
 
     // The line's count exceeds its limit.
     pub fn excess(&self) -> Fault
-        ensures { told result ≡ too_many self.now.line }
+        ensures { told result ≡ too_many (line_number self.now) }
     {
         Fault::too_many(self.line)
     }
 
     // No field is left.
     pub(crate) fn end(&self) -> Result<(), Fault>
-        ensures { MatchResult result (λ _. words self.now ≡ []) (λ f. (told f ≡ ill_formed self.now.line) × (words self.now ≢ [])) }
+        ensures { AtEnd self.now result }
     {
         if self.rest.is_some() {
             return Err(self.fault());

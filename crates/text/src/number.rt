@@ -1,13 +1,12 @@
 // Numbers in decimal, without leading zeros.
-ghost use Rattle.std.specs.Prelude.{◌≡◌, ℕ, ◌^◌, ◌<◌, decimal, MatchResult, ◌≢◌};
-ghost use Rattle.text.specs.Faults.{told, ill_formed};
+ghost use Rattle.text.specs.Fields.{ReadsNumber};
 
 use super::fault::Fault;
 use std::str;
 
 // The number of 32 bits that `word` writes, for a word of line `line`.
 pub(crate) fn number(word: &[u8], line: u32) -> Result<u32, Fault>
-    ensures { MatchResult result (λ n. word.now ≡ decimal n) (λ f. (told f ≡ ill_formed line) × ((n : ℕ) → n < 2 ^ 32 → word.now ≢ decimal n)) }
+    ensures { ReadsNumber word.now line result }
 {
     let fault = Fault::ill_formed(line);
     // `parse` takes a plus and leading zeros too

@@ -1,6 +1,6 @@
 // What each kind of line says. A line of a cable or a packet is read from its start, any other from behind its first word.
 ghost use Rattle.std.specs.Prelude.{◌≡◌, ◌≤◌, [], ◌∷◌, map, length, take, codes};
-ghost use Rattle.text.specs.Fields.{words, Reads, Begins};
+ghost use Rattle.text.specs.Fields.{words, line_number, Reads, Begins};
 ghost use Rattle.text.specs.Texts.{number, Any};
 ghost use Rattle.text.specs.Lines.{shape_line, kind_field, kind_line, run_line, Brief, number_field, cables_line, Uncabled, slot_fields, cable_line, packet_line, Blank, Sized};
 
@@ -9,7 +9,7 @@ use super::field::{Fields, is};
 use super::parts::{Packet, Run, Shape, SwitchKind};
 use fabric::parts::{Cable, Slot};
 
-const MOST_CYCLES: u32 = 65535;
+const MOST_RUN_CYCLES: u32 = 65535;
 
 const MOST_WORDS: u32 = 4;
 
@@ -28,7 +28,7 @@ fn numbers<const N: usize>(fields: &mut Fields, count: usize) -> Result<[u32; N]
 
 // `mesh W H`
 pub fn mesh(mut fields: Fields) -> Result<Shape, Fault>
-    ensures { Reads shape_line Any (codes "mesh" ∷ words fields.entry) fields.entry.line result }
+    ensures { Reads shape_line Any (codes "mesh" ∷ words fields.entry) (line_number fields.entry) result }
 {
     let [width, height] = numbers::<2>(&mut fields, 2)?;
     fields.end()?;
@@ -37,7 +37,7 @@ pub fn mesh(mut fields: Fields) -> Result<Shape, Fault>
 
 // `cabled N`
 pub fn cabled(mut fields: Fields) -> Result<Shape, Fault>
-    ensures { Reads shape_line Any (codes "cabled" ∷ words fields.entry) fields.entry.line result }
+    ensures { Reads shape_line Any (codes "cabled" ∷ words fields.entry) (line_number fields.entry) result }
 {
     let nodes = fields.number()?;
     fields.end()?;
@@ -57,7 +57,7 @@ fn kind(fields: &mut Fields) -> Result<SwitchKind, Fault>
 
 // `switch chipper` or `switch bless`
 pub fn switch(mut fields: Fields) -> Result<SwitchKind, Fault>
-    ensures { Reads kind_line Any (codes "switch" ∷ words fields.entry) fields.entry.line result }
+    ensures { Reads kind_line Any (codes "switch" ∷ words fields.entry) (line_number fields.entry) result }
 {
     let kind = kind(&mut fields)?;
     fields.end()?;
@@ -66,10 +66,10 @@ pub fn switch(mut fields: Fields) -> Result<SwitchKind, Fault>
 
 // `run T M L seed cycles`
 pub fn run(mut fields: Fields) -> Result<Run, Fault>
-    ensures { Reads run_line Brief (codes "run" ∷ words fields.entry) fields.entry.line result }
+    ensures { Reads run_line Brief (codes "run" ∷ words fields.entry) (line_number fields.entry) result }
 {
     let [tickets, words, epoch, seed, cycles] = numbers::<5>(&mut fields, 5)?;
-    if cycles > MOST_CYCLES {
+    if cycles > MOST_RUN_CYCLES {
         return Err(fields.fault());
     }
     fields.end()?;
@@ -84,7 +84,7 @@ pub fn run(mut fields: Fields) -> Result<Run, Fault>
 
 // `packets P`, or the count of any list.
 pub fn count(mut fields: Fields) -> Result<usize, Fault>
-    ensures { Reads number_field Any (words fields.entry) fields.entry.line result }
+    ensures { Reads number_field Any (words fields.entry) (line_number fields.entry) result }
 {
     let count = fields.number()? as usize;
     fields.end()?;
@@ -93,7 +93,7 @@ pub fn count(mut fields: Fields) -> Result<usize, Fault>
 
 // `cables C`, which is 0 for a mesh.
 pub fn cables(fields: Fields, shape: Shape) -> Result<usize, Fault>
-    ensures { Reads cables_line (Uncabled shape) (codes "cables" ∷ words fields.entry) fields.entry.line result }
+    ensures { Reads cables_line (Uncabled shape) (codes "cables" ∷ words fields.entry) (line_number fields.entry) result }
 {
     let count = count(fields)?;
     match shape {
@@ -113,7 +113,7 @@ fn slot(fields: &mut Fields) -> Result<Slot, Fault>
 
 // `node port node port`
 pub fn cable(mut fields: Fields) -> Result<Cable, Fault>
-    ensures { Reads cable_line Any (words fields.entry) fields.entry.line result }
+    ensures { Reads cable_line Any (words fields.entry) (line_number fields.entry) result }
 {
     let one = slot(&mut fields)?;
     let other = slot(&mut fields)?;
@@ -123,7 +123,7 @@ pub fn cable(mut fields: Fields) -> Result<Cable, Fault>
 
 // `cycle node own destination count words`, of a packet that is not due before cycle `last`
 pub fn packet(mut fields: Fields, last: u32) -> Result<Packet, Fault>
-    ensures { Reads packet_line (λ p. Sized p × (last ≤ p.cycle)) (words fields.entry) fields.entry.line result }
+    ensures { Reads packet_line (λ p. Sized p × (last ≤ p.cycle)) (words fields.entry) (line_number fields.entry) result }
 {
     let [cycle, node, own, destination, count] = numbers::<5>(&mut fields, 5)?;
     if cycle < last || count < 1 || count > MOST_WORDS {

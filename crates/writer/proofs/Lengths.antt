@@ -2,9 +2,9 @@
 use Rattle.std.proofs.Common.{ℕ, ◌*◌, ◌/◌, ◌^◌, ◌<◌, ◌≤◌, List, [], ◌∷◌, map, length, IfSome, Some, None, codes, Option, arith}
 use Rattle.std.specs.List.{AllByRecursion}
 use Rattle.std.proofs.lemmas.Fmt.{length-decimal-le}
-use Rattle.text.specs.Texts.{word, number, written}
+use Rattle.text.specs.Texts.{word, number, figures, written}
 use Rattle.writer.specs.Listings.{event_line, done_line, no_line, end_line, mean_word}
-use Rattle.writer.specs.Steps.{figures, spread}
+use Rattle.writer.specs.Steps.{bytes_taken}
 use Rattle.writer.proofs.Written.{digits_ten, length_mean, length_written}
 
 pub length_event : (c t k n : ℕ) (kind : List ℕ) → c < 65536 → length kind ≤ 3 → t < 1000 → k < 10 → n < 100 → length (written (event_line c kind t k n)) ≤ 20
@@ -29,9 +29,9 @@ length_no c r n o hc hr hn ho =
       digits_ten o ho,
     )
 
-spread_words : (ws : List ℕ) → AllByRecursion (λ w. w < 2 ^ 32) ws → spread (figures ws) ≤ 11 * length ws
-spread_words [] h = omega arith
-spread_words (w ∷ ws) h = let a = spread_words ws h.1 in let b = digits_ten w h.0 in omega arith
+taken_words : (ws : List ℕ) → AllByRecursion (λ w. w < 2 ^ 32) ws → bytes_taken (figures ws) ≤ 11 * length ws
+taken_words [] h = omega arith
+taken_words (w ∷ ws) h = let a = taken_words ws h.1 in let b = digits_ten w h.0 in omega arith
 
 pub length_done : (c t : ℕ) (ws : List ℕ) → c < 65536 → t < 1000 → length ws ≤ 4 → AllByRecursion (λ w. w < 2 ^ 32) ws → length (written (done_line c t ws)) ≤ 60
 length_done c t ws hc ht l h =
@@ -40,7 +40,7 @@ length_done c t ws hc ht l h =
       length_written (number c) (word (codes "done") ∷ number t ∷ map number ws),
       length-decimal-le 5 c (omega arith) (omega arith) (omega arith),
       length-decimal-le 3 t (omega arith) (omega arith) (omega arith),
-      spread_words ws h,
+      taken_words ws h,
     )
 
 -- the last line has at most 64 bytes

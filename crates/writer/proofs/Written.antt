@@ -1,17 +1,16 @@
 -- One text written after another.
 use Rattle.std.proofs.Common.{◌≡◌, ℕ, zero, suc, ◌+◌, ◌*◌, ◌/◌, ◌%◌, ◌^◌, ◌<◌, ◌≤◌, true, false, List, [], ◌∷◌, ◌++◌, map, length, get_or, take, drop, is_some, IfSome, IfNone, unwrap_or, Some, None, Err, Result, codes, decimal, Option, sym, refl, ap, ◌∙◌, subst, append_assoc, arith}
-use Rattle.std.specs.List.{flat_map}
 use Rattle.std.specs.Option.{ok_or}
 use Rattle.std.proofs.Math.Nat.{pow-succ'}
 use Rattle.std.proofs.lemmas.Fmt.{decimal_step, decimal_digit, length-decimal-le}
 use Rattle.std.proofs.lemmas.List.{append-nil, length-append, length_push, drop-drop, take_more, map_push, flat_map_more}
 use Rattle.fabric.specs.declared.refusal.Refusal.{Refusal}
 use Rattle.fabric.specs.declared.refusal.Refusal.TheVariants.{Memory}
-use Rattle.text.specs.Texts.{Field, word, number, shown, row, written}
+use Rattle.text.specs.Texts.{Field, word, number, shown, figures, after_spaces, row, written}
 use Rattle.text.specs.Faults.{layer_word, fault_fields}
 use Rattle.text.specs.declared.fault.Layer.{Layer}
 use Rattle.writer.specs.Listings.{listed, beyond, Appends, mean_word}
-use Rattle.writer.specs.Steps.{Puts, figures, spread, Leaves}
+use Rattle.writer.specs.Steps.{Puts, bytes_taken, Leaves}
 use Rattle.writer.specs.declared.writer.Writer.{Writer}
 
 pub appends_both : (w v u : Writer) (a b : List ℕ) → Appends w a v → Appends v b u → Appends w (a ++ b) u
@@ -59,10 +58,10 @@ length_mean t =
     omega (arith, length-append (decimal (t / 10) ++ codes ".") (decimal (t % 10)), length-append (decimal (t / 10)) (codes "."), length_digit (t % 10) (omega arith))
 
 -- numbers, each after a space
-pub figures_step : (ns : List ℕ) (i : ℕ) → i < length ns → flat_map (λ v. 32 ∷ v) (figures (take i ns)) ++ (32 ∷ decimal (get_or ns i 0)) ≡ flat_map (λ v. 32 ∷ v) (figures (take (i + 1) ns))
+pub figures_step : (ns : List ℕ) (i : ℕ) → i < length ns → after_spaces (figures (take i ns)) ++ (32 ∷ decimal (get_or ns i 0)) ≡ after_spaces (figures (take (i + 1) ns))
 figures_step ns i l =
     flat_map_more (λ v. 32 ∷ v) [] (figures (take i ns)) (decimal (get_or ns i 0))
-    ∙ ap (flat_map (λ v. 32 ∷ v)) (figures_push (take i ns) (get_or ns i 0) ∙ ap figures (sym (take_more ns i 0 l)))
+    ∙ ap after_spaces (figures_push (take i ns) (get_or ns i 0) ∙ ap figures (sym (take_more ns i 0 l)))
   where
     figures_push : (ms : List ℕ) (n : ℕ) → figures ms ++ (decimal n ∷ []) ≡ figures (ms ++ (n ∷ []))
     figures_push ms n = sym (map_push shown (map number ms) (number n)) ∙ ap (map shown) (sym (map_push number ms n))
@@ -83,33 +82,33 @@ pub lined_last : (w u v x y z : Writer) (a b c d : List ℕ) → Puts w a u → 
     Puts w ((a ++ (b ++ (c ++ (d ++ [])))) ++ (10 ∷ [])) z
 lined_last w u v x y z a b c d f g h i j = lined w u v x y z a b c (d ++ []) f g h (subst (λ s. Puts x s y) (sym (append-nil d)) i) j
 
-pub length_joined : (ws : List (List ℕ)) → length (flat_map (λ v. 32 ∷ v) ws) ≡ spread ws
-length_joined [] = refl
-length_joined (w ∷ ws) = let e = length-append (32 ∷ w) (flat_map (λ v. 32 ∷ v) ws) in let h = length_joined ws in omega arith
+pub length_after_spaces : (ws : List (List ℕ)) → length (after_spaces ws) ≡ bytes_taken ws
+length_after_spaces [] = refl
+length_after_spaces (w ∷ ws) = let e = length-append (32 ∷ w) (after_spaces ws) in let h = length_after_spaces ws in omega arith
 
 -- a line's length is that of its fields, each with a byte after it
-pub length_written : (f : Field) (fs : List Field) → length (written (f ∷ fs)) ≡ spread (map shown (f ∷ fs))
+pub length_written : (f : Field) (fs : List Field) → length (written (f ∷ fs)) ≡ bytes_taken (map shown (f ∷ fs))
 length_written f fs =
     let a = length-append (row (f ∷ fs)) (10 ∷ []) in
-    let b = length-append (shown f) (flat_map (λ v. 32 ∷ v) (map shown fs)) in
-    let c = length_joined (map shown fs) in
+    let b = length-append (shown f) (after_spaces (map shown fs)) in
+    let c = length_after_spaces (map shown fs) in
     omega arith
 
 pub length_fault : (x : ℕ × Layer × ℕ) → length (written (fault_fields x)) ≡ 9 + length (layer_word x.1) + length (decimal x.0) + length (decimal x.2)
 length_fault x = omega (arith, length_written (word (codes "fault")) (word (layer_word x.1) ∷ number x.0 ∷ number x.2 ∷ []))
 
 -- one number more
-pub spread_more : (ns : List ℕ) (i : ℕ) → i < length ns → spread (figures (take (i + 1) ns)) ≡ spread (figures (take i ns)) + (length (decimal (get_or ns i 0)) + 1)
-spread_more ns i l =
-    let a = length_joined (figures (take (i + 1) ns)) in
-    let b = length_joined (figures (take i ns)) in
-    omega (arith, ap length (figures_step ns i l), length-append (flat_map (λ v. 32 ∷ v) (figures (take i ns))) (32 ∷ decimal (get_or ns i 0)))
+pub taken_more : (ns : List ℕ) (i : ℕ) → i < length ns → bytes_taken (figures (take (i + 1) ns)) ≡ bytes_taken (figures (take i ns)) + (length (decimal (get_or ns i 0)) + 1)
+taken_more ns i l =
+    let a = length_after_spaces (figures (take (i + 1) ns)) in
+    let b = length_after_spaces (figures (take i ns)) in
+    omega (arith, ap length (figures_step ns i l), length-append (after_spaces (figures (take i ns))) (32 ∷ decimal (get_or ns i 0)))
 
 -- the numbers that came so far take no more than all
-pub spread_take : (ns : List ℕ) (i : ℕ) → spread (figures (take i ns)) ≤ spread (figures ns)
-spread_take [] i = elim i as (λ k. spread (figures (take k [])) ≤ 0) [ zero ↦ omega arith | suc k ↦ omega arith ]
-spread_take (n ∷ ns) zero = omega arith
-spread_take (n ∷ ns) (suc i) = let h = spread_take ns i in omega arith
+pub taken_first : (ns : List ℕ) (i : ℕ) → bytes_taken (figures (take i ns)) ≤ bytes_taken (figures ns)
+taken_first [] i = elim i as (λ k. bytes_taken (figures (take k [])) ≤ 0) [ zero ↦ omega arith | suc k ↦ omega arith ]
+taken_first (n ∷ ns) zero = omega arith
+taken_first (n ∷ ns) (suc i) = let h = taken_first ns i in omega arith
 
 -- whether the room has so many bytes
 pub too_few : {room taken : ℕ} (r : Option ℕ) → is_some r ≡ false → Leaves room taken r → room < taken

@@ -1,17 +1,12 @@
 -- The steps in which a line is written, and the room that they take.
-use Rattle.std.specs.Prelude.{◌≡◌, ℕ, ◌+◌, ◌<◌, List, [], ◌∷◌, map, length, Option, MatchOption}
-use Rattle.text.specs.Texts.{number, shown}
+use Rattle.std.specs.Prelude.{◌≡◌, ℕ, ◌+◌, ◌<◌, List, [], ◌∷◌, length, Option, MatchOption}
 use Rattle.writer.specs.Listings.{beyond, SameLender, Appends}
 use Rattle.writer.specs.declared.writer.Writer.{Writer}
 
--- numbers as words
-abbrev pub figures : List ℕ → List (List ℕ)
-figures ns = map shown (map number ns)
-
--- the bytes of words, each with one byte that parts it from the next or ends the line
-abbrev pub spread : List (List ℕ) → ℕ
-spread [] = 0
-spread (w ∷ ws) = 1 + length w + spread ws
+-- how many bytes words take, each with one that parts it from the next or ends the line
+abbrev pub bytes_taken : List (List ℕ) → ℕ
+bytes_taken [] = 0
+bytes_taken (w ∷ ws) = 1 + length w + bytes_taken ws
 
 -- what is left of the room once so many bytes are taken, if it has them
 abbrev pub Leaves : ℕ → ℕ → Option ℕ → Type 0

@@ -1,9 +1,9 @@
 // How many bytes the fields of a line take.
 ghost use Rattle.std.specs.Prelude.{◌≡◌, ◌≤◌, ◌∷◌, map, length, decimal};
 ghost use Rattle.text.specs.Faults.{layer_word};
-ghost use Rattle.text.specs.Texts.{shown};
+ghost use Rattle.text.specs.Texts.{shown, figures};
 ghost use Rattle.writer.specs.Listings.{stamped_line, mean_word};
-ghost use Rattle.writer.specs.Steps.{figures, spread, Leaves};
+ghost use Rattle.writer.specs.Steps.{bytes_taken, Leaves};
 
 use text::fault::Layer;
 
@@ -38,7 +38,7 @@ pub(crate) fn layer_word(layer: Layer) -> &'static [u8]
 // Counted down from the room, since the bytes of a long slice of numbers need not fit a usize.
 // A loop: a `for` with `?` is as plain as a `try_fold`, whose goal stayed open.
 pub(crate) fn after_numbers(room: usize, numbers: &[u32]) -> Option<usize>
-    ensures { Leaves room (spread (figures numbers.now)) result }
+    ensures { Leaves room (bytes_taken (figures numbers.now)) result }
 {
     let mut left = room;
     for n in numbers {
@@ -55,7 +55,7 @@ pub(crate) fn after_stamped(
     first: u32,
     more: &[u32],
 ) -> Option<usize>
-    ensures { Leaves room (spread (map shown (stamped_line cycle kind.now (first ∷ more.now)))) result }
+    ensures { Leaves room (bytes_taken (map shown (stamped_line cycle kind.now (first ∷ more.now)))) result }
 {
     let left = after_numbers(room, more)?.checked_sub(kind.len())?;
     left.checked_sub(digits(cycle) + digits(first) + 3)

@@ -1,8 +1,8 @@
 // The steps in which a line is written: bytes, words and numbers, each after what is written.
 ghost use Rattle.std.specs.Prelude.{◌≡◌, ◌+◌, ◌≤◌, [], ◌∷◌, length, decimal};
-ghost use Rattle.std.specs.List.{flat_map};
+ghost use Rattle.text.specs.Texts.{figures, after_spaces};
 ghost use Rattle.writer.specs.Listings.{beyond};
-ghost use Rattle.writer.specs.Steps.{figures, spread, Puts};
+ghost use Rattle.writer.specs.Steps.{bytes_taken, Puts};
 
 use super::Writer;
 
@@ -63,8 +63,8 @@ impl<'a> Writer<'a> {
 
     // Numbers, each after a space.
     pub(super) fn all(&mut self, ns: &[u32])
-        requires { spread (figures ns.now) ≤ length (beyond self.old) }
-        ensures { Puts self.old (flat_map (λ v. 32 ∷ v) (figures ns.now)) self.new }
+        requires { bytes_taken (figures ns.now) ≤ length (beyond self.old) }
+        ensures { Puts self.old (after_spaces (figures ns.now)) self.new }
     {
         for n in ns {
             self.next(*n);

@@ -3,8 +3,9 @@ use Rattle.std.proofs.lemmas.Bool.{ltb-true}
 use Rattle.std.proofs.lemmas.Result.{err_from_is_err_and}
 use Rattle.std.specs.Str.Parse.{ParsesUnsigned}
 use Rattle.text.specs.Faults.{told, ill_formed}
+use Rattle.text.specs.Fields.{Unwritten}
 use Rattle.text.proofs.Exits.{err_at, mapped, mapped_ok, mapped_err}
-use Rattle.text.proofs.Numbers.{Unwritten, signed, padded, foreign, judged}
+use Rattle.text.proofs.Numbers.{signed, padded, foreign, judged}
 use Rattle.text.proofs.number.number.Goals as goal
 use Rattle.text.proofs.number.number.Goals.{then-starts_with-via-then-starts_with, then-starts_with-via-else-starts_with+then-starts_with-2, then-word-gt1, else-word-gt1}
 

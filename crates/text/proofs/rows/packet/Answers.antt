@@ -2,10 +2,10 @@ use Rattle.std.proofs.Common.{◌≤◌, [], ◌∷◌, map, take, sym, refl, ap
 use Rattle.std.specs.List.{AllByRecursion}
 use Rattle.std.proofs.lemmas.Result.{err_from_is_err_and}
 use Rattle.text.specs.Faults.{ill_formed}
-use Rattle.text.specs.Texts.{Fits, number}
+use Rattle.text.specs.Texts.{Fits, number, figures}
 use Rattle.text.specs.Lines.{payload, packet_line, Blank, Sized}
 use Rattle.text.proofs.Exits.{passed}
-use Rattle.text.proofs.Figures.{figures, figures_only, figures_end, blank_at_end, same_front}
+use Rattle.text.proofs.Figures.{figures_only, figures_end, blank_at_end, same_front}
 use Rattle.text.proofs.rows.packet.Goals as goal
 
 pub returns-in_err-cycle : goal.returns-in_err-cycle

@@ -1,5 +1,6 @@
 use Rattle.std.proofs.Common.{ap, ◌∙◌}
-use Rattle.text.proofs.Parting.{left, parted_get}
+use Rattle.text.specs.Fields.{left}
+use Rattle.text.proofs.Parting.{parted_get}
 use Rattle.text.proofs.field.Fields.word.Goals as goal
 
 pub returns-clause-words : goal.returns-clause-words

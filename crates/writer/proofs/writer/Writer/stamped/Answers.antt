@@ -2,11 +2,10 @@ use Rattle.std.proofs.Common.{◌∷◌, map, Err, Result, sym, ap, ◌∙◌, s
 use Rattle.std.proofs.lemmas.Result.{err_from_is_err_and}
 use Rattle.fabric.specs.declared.refusal.Refusal.{Refusal}
 use Rattle.fabric.specs.Refusals.{shown}
-use Rattle.text.specs.Texts.{word, number}
-use Rattle.writer.specs.Steps.{figures}
+use Rattle.text.specs.Texts.{word, number, figures}
 use Rattle.writer.specs.Listings.{LineOut, stamped_line}
 use Rattle.writer.specs.Listings.LineOut.{added, short}
-use Rattle.writer.proofs.Written.{lined, length_written, length_joined, too_few, enough, no_memory}
+use Rattle.writer.proofs.Written.{lined, length_written, length_after_spaces, too_few, enough, no_memory}
 use Rattle.writer.proofs.writer.Writer.stamped.Goals as goal
 
 pub returns-in_err-ok_or-clause-line : goal.returns-in_err-ok_or-clause-line
@@ -34,7 +33,7 @@ byte-requires c =
       c.word.ensures.room,
       c.next.ensures.room,
       c.all.ensures.room,
-      length_joined (figures c.args.more.now),
+      length_after_spaces (figures c.args.more.now),
     )
 
 pub returns-clause-line : goal.returns-clause-line
