@@ -4,11 +4,14 @@ ghost use Rattle.fabric.specs.Refusals.{shown};
 ghost use Rattle.bounds.specs.SetUp.{set_up_verdict};
 
 use fabric::layout::Layout;
+use fabric::parts::{NODES, WORDS};
 use fabric::refusal::Refusal;
 
-const MOST_TICKETS: usize = 8;
+// The tickets of a node, at most.
+pub const OWN: usize = 8;
 
-const MOST_WORDS: usize = 4;
+// All tickets of the largest network.
+pub const TICKETS: usize = NODES * OWN;
 
 const LONGEST_EPOCH: usize = 4096;
 
@@ -37,7 +40,7 @@ impl Settings {
             epoch,
             seed,
         } = *self;
-        if !matches!((tickets, words), (1..=MOST_TICKETS, 1..=MOST_WORDS)) {
+        if !matches!((tickets, words), (1..=OWN, 1..=WORDS)) {
             return Err(Refusal::Limits);
         }
         let shortest = words * (layout.reach() + 1);

@@ -5,9 +5,9 @@ ghost use Rattle.cabled.specs.Cables.{Means, lone, Cabling};
 ghost use Rattle.cabled.specs.Tables.{leads, Within, Nearing};
 
 use super::rounds::Spans;
-use super::wiring::{NODES, Wiring};
+use super::wiring::Wiring;
 use fabric::layout::Layout;
-use fabric::parts::{Cable, Port, Slot};
+use fabric::parts::{Cable, NODES, Port, Slot};
 use fabric::refusal::Refusal;
 
 // The order in which ports are tried for a wish.

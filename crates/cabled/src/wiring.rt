@@ -3,14 +3,8 @@ ghost use Rattle.std.specs.Prelude.{◌≡◌, ℕ, None, ◌<◌, Ok, Err, leng
 ghost use Rattle.cabled.specs.Cables.{Fair, Good, AllGood};
 ghost use Rattle.cabled.specs.Tables.{index, far_at, Free, Fits, plugged, Paired, Wired};
 
-use fabric::parts::{Cable, Slot};
+use fabric::parts::{Cable, PORTS, SLOTS, Slot};
 use fabric::refusal::Refusal;
-
-pub(crate) const NODES: usize = 64;
-
-const PORTS: usize = 4;
-
-const SLOTS: usize = NODES * PORTS;
 
 // The place of a port in the table.
 fn place(slot: Slot) -> usize

@@ -13,10 +13,10 @@ ghost use Rattle.calls.specs.Midway.{Sent, NodeWorks};
 ghost use Rattle.calls.specs.Networks.{fabric_of, SameParts};
 
 use super::steps::{are_empty, spread, wishes};
-use super::tables::{PORTS, SLOTS, Tables};
+use super::tables::Tables;
 use bounds::settings::Settings;
 use fabric::layout::Layout;
-use fabric::parts::Flit;
+use fabric::parts::{Flit, PORTS, SLOTS};
 use fabric::refusal::Refusal;
 use line::Line;
 use network::event::Event;

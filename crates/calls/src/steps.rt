@@ -6,9 +6,8 @@ ghost use Rattle.network.specs.Cycle.{in_slot_order, wish_of};
 ghost use Rattle.network.specs.Computed.{due as is_due, better as is_better, best as is_best, ahead as is_ahead, gap as is_gap};
 ghost use Rattle.calls.specs.Steps.{none_at, far_place, Spread, Unsent};
 
-use super::tables::{PORTS, SLOTS};
 use fabric::layout::Layout;
-use fabric::parts::{Flit, Port};
+use fabric::parts::{Flit, PORTS, Port, SLOTS};
 use switch::rank::Rank;
 
 // Whether no flit stands in any of the places.

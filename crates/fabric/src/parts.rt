@@ -4,6 +4,18 @@ ghost use Rattle.fabric.specs.Ports.{place_of, letter};
 
 use std::fmt;
 
+// The nodes of the largest layout.
+pub const NODES: usize = 64;
+
+// The ports of a node.
+pub const PORTS: usize = 4;
+
+// The slots of the largest layout.
+pub const SLOTS: usize = NODES * PORTS;
+
+// The words of the longest packet.
+pub const WORDS: usize = 4;
+
 // A side of a node, by which flits arrive and leave. The order N, E, S, W is slot order: the four places of a node are numbered by it, from 0.
 #[derive(Clone, Copy, PartialEq, Eq, Debug, Default)]
 pub enum Port {
@@ -16,7 +28,7 @@ pub enum Port {
 
 impl Port {
     // All ports, in slot order.
-    pub const ALL: [Port; 4] = [Port::N, Port::E, Port::S, Port::W];
+    pub const ALL: [Port; PORTS] = [Port::N, Port::E, Port::S, Port::W];
 
     // The port's place among four, in slot order.
     pub fn index(self) -> usize

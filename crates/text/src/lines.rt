@@ -8,7 +8,7 @@ use super::fault::Fault;
 use super::field::{Fields, find};
 
 // The bytes that a text has at most.
-const MOST_BYTES: usize = 65536;
+pub const MOST_BYTES: usize = 65536;
 
 // What is left to read of a text, after `read` lines of it.
 #[derive(Drop)]
