@@ -16,7 +16,7 @@ use super::steps::{are_empty, spread, wishes};
 use super::tables::Tables;
 use bounds::settings::Settings;
 use fabric::layout::Layout;
-use fabric::parts::{Flit, PORTS, SLOTS};
+use fabric::parts::{Flit, PORTS, Port, SLOTS, Slot};
 use fabric::refusal::Refusal;
 use line::Line;
 use network::event::Event;
@@ -144,7 +144,11 @@ impl<L: Layout, S: Switch> Network<L, S> {
         if node >= self.layout.nodes() || port >= PORTS {
             return Err(Refusal::Missing);
         }
-        Ok(self.inner.slots[PORTS * node + port])
+        let slot = Slot {
+            node,
+            port: Port::ALL[port],
+        };
+        Ok(self.inner.slots[slot.number()])
     }
 
     // The switch sends the flits in the places of a node on to the far ends of its ports.

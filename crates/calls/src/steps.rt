@@ -7,7 +7,7 @@ ghost use Rattle.network.specs.Computed.{due as is_due, better as is_better, bes
 ghost use Rattle.calls.specs.Steps.{none_at, far_place, Spread, Unsent};
 
 use fabric::layout::Layout;
-use fabric::parts::{Flit, PORTS, Port, SLOTS};
+use fabric::parts::{Flit, Port, SLOTS};
 use switch::rank::Rank;
 
 // Whether no flit stands in any of the places.
@@ -102,8 +102,7 @@ fn far<L: Layout>(layout: &L, node: usize, k: usize) -> usize
     ensures is { result ≡ far_place (L.plan layout.now) node (port_of k) }
     ensures below { result < 256 }
 {
-    let to = layout.far_end(node, Port::ALL[k]);
-    PORTS * to.node + to.port.index()
+    layout.far_end(node, Port::ALL[k]).number()
 }
 
 // Each flit goes to its port's far end. Where none leaves, nothing is written: the far end is empty, and no other node sends there.

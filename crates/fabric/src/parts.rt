@@ -1,6 +1,6 @@
 // Ports, slots, cables and flits.
-ghost use Rattle.std.specs.Prelude.{◌≡◌, Some};
-ghost use Rattle.fabric.specs.Ports.{place_of, letter};
+ghost use Rattle.std.specs.Prelude.{◌≡◌, ◌<◌, Some};
+ghost use Rattle.fabric.specs.Ports.{place_of, letter, slot_number};
 
 use std::fmt;
 
@@ -56,6 +56,17 @@ impl fmt::Display for Port {
 pub struct Slot {
     pub node: usize,
     pub port: Port,
+}
+
+impl Slot {
+    // The slot's number among those of all nodes, four of each in slot order.
+    pub fn number(self) -> usize
+        requires { self.node < 64 }
+        ensures is { result ≡ slot_number self }
+        ensures below { result < 256 }
+    {
+        PORTS * self.node + self.port.index()
+    }
 }
 
 // A cable joins two ports, of one node or of two.

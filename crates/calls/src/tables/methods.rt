@@ -13,7 +13,7 @@ use batch::Batch;
 use bounds::settings::{Settings, TICKETS};
 use clock::draw::shift;
 use clock::epoch::golden;
-use fabric::parts::{Flit, NODES, PORTS, SLOTS};
+use fabric::parts::{Flit, NODES, Port, SLOTS, Slot};
 use std::array;
 
 impl Tables {
@@ -111,7 +111,7 @@ impl Tables {
         requires { node < 64 }
         ensures { result ≡ in_slot_order (slot_of self.now.slots node) }
     {
-        array::from_fn(|k| self.slots[PORTS * node + k])
+        Port::ALL.map(|port| self.slots[Slot { node, port }.number()])
     }
 
     // The golden ticket of this cycle.
