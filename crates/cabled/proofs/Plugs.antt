@@ -7,12 +7,9 @@ use Rattle.fabric.specs.declared.parts.Cable.{Cable}
 use Rattle.fabric.specs.declared.parts.Port.{Port}
 use Rattle.fabric.specs.declared.parts.Slot.{Slot}
 use Rattle.fabric.specs.Ports.{slot_number}
-use Rattle.fabric.specs.Places.{slot_below, slot_same}
+use Rattle.fabric.specs.Places.{slot_below, slot_same, slot_cases}
 use Rattle.cabled.specs.Cables.{cable_at, Runs, Joined, Good}
 use Rattle.cabled.specs.Tables.{end_at, far_at, next_at, Paired, Wired, Free, Fits, plugged}
-
-cases_slot : (s t : Slot) → (s ≡ t) ⊎ (s ≡ t → ⊥)
-cases_slot s t = ⊎_elim (λ e. inl (slot_same s t e)) (λ e. inr (λ f. e (ap slot_number f))) (cases_eq (slot_number s) (slot_number t))
 
 none_if : (o : Option Slot) → ((t : Slot) → o ≡ Some t → ⊥) → o ≡ None
 none_if None h = refl
@@ -80,7 +77,7 @@ module _ (k : ℕ) (few : k ≤ 64) (c : Cable) (ts : List (Option Slot)) (long 
   both s t l e f = (omega (arith, ap (λ (x : Slot). x.node) e), ap (far_at after) e ∙ f)
 
   pub paired_more : Paired k ts → Paired k after
-  paired_more paired s l = go (cases_slot s c.one) (cases_slot s c.other)
+  paired_more paired s l = go (slot_cases s c.one) (slot_cases s c.other)
     where
       one_other : Leads c.one c.other
       one_other = ap (λ o. unwrap_or o c.one) at_one
@@ -118,7 +115,7 @@ module _ (k i : ℕ) (few : k ≤ 64) (cs : List Cable) (ts : List (Option Slot)
       at_rest k few c ts long fits s (λ p. cc (ap (end_at ts) p ∙ fits.1.1, e)) (λ p. cc (ap (end_at ts) p ∙ fits.2.1, e)) ∙ e
 
   only_more : (s t : Slot) → s.node < 64 → end_at (plugged ts c) s ≡ Some t → Joined cs (i + 1) s t
-  only_more s t l e = go (cases_slot s c.one) (cases_slot s c.other)
+  only_more s t l e = go (slot_cases s c.one) (slot_cases s c.other)
     where
       go : (s ≡ c.one) ⊎ (s ≡ c.one → ⊥) → (s ≡ c.other) ⊎ (s ≡ c.other → ⊥) → Joined cs (i + 1) s t
       go (inl p) q = (i, omega arith, inl (sym p, same_Some c.other t (sym (ap (end_at (plugged ts c)) p ∙ at_one k few c ts long fits) ∙ e)))

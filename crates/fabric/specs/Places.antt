@@ -72,6 +72,9 @@ slot_same s t e =
     let p : s.port ≡ t.port = place_same s.port t.port (omega arith) in
     λ i. record { node = n i; port = p i }
 
+pub slot_cases : (s t : Slot) → (s ≡ t) ⊎ (s ≢ t)
+slot_cases s t = ⊎_elim (λ e. inl (slot_same s t e)) (λ h. inr (λ e. h (ap slot_number e))) (cases_eq (slot_number s) (slot_number t))
+
 -- what the first port that passes a test says of the ports
 abbrev pub Pick : (Port → Bool) → Option Port → Type 0
 Pick f (Some w) = (f w ≡ true) × ((v : Port) → looked_at v < looked_at w → f v ≡ false)

@@ -20,8 +20,8 @@ use Rattle.text.specs.declared.parts.Shape.TheVariants.{Mesh, Cabled}
 use Rattle.laying.specs.Reports.{Report, by_layer, then}
 use Rattle.laying.specs.Reports.Report.{answers, faults}
 use Rattle.laying.specs.Layings.{Laid, Judged, settings_of, settled, layout_line}
-use Rattle.fabric.specs.Ports.{slot_number, looked_at}
-use Rattle.fabric.specs.Places.{slot_same, looked_at_same}
+use Rattle.fabric.specs.Ports.{looked_at}
+use Rattle.fabric.specs.Places.{slot_cases, looked_at_same}
 
 -- two plans of one list of cables: distances are fewest cables, and the rest follows
 module _ {k : ℕ} {cs : List Cable} {p q : Plan} (a : Means k cs p) (b : Means k cs q) (law : Lawful p) (law' : Lawful q) where
@@ -29,12 +29,11 @@ module _ {k : ℕ} {cs : List Cable} {p q : Plan} (a : Means k cs p) (b : Means 
   same_far n s =
       let t : Slot = record { node = n; port = s } in
       ⊎_elim
-      (λ e. slot_same (p.far n s) (q.far n s) e)
-      (λ e.
-      let other : p.far n s ≡ q.far n s → ⊥ = λ h. e (ap slot_number h) in
+      (λ e. e)
+      (λ other.
       let none : (u : Slot) → Joined cs (length cs) t u → ⊥ = λ u j. other (a.plugged t u j ∙ sym (b.plugged t u j)) in
       absurd (other (a.bare t none ∙ sym (b.bare t none))))
-      (cases_eq (slot_number (p.far n s)) (slot_number (q.far n s)))
+      (slot_cases (p.far n s) (q.far n s))
 
   -- of a node that is missing, all say the same
   same_of : {A : Type 0} (f : Plan → ℕ → ℕ → A) (x : A) →
