@@ -10,9 +10,6 @@ use fabric::layout::Layout;
 use fabric::parts::{Cable, NODES, Port, Slot};
 use fabric::refusal::Refusal;
 
-// The order in which ports are tried for a wish.
-const WISH_ORDER: [Port; 4] = [Port::E, Port::W, Port::N, Port::S];
-
 // The layout that a list of cables makes.
 #[derive(Clone, Copy)]
 pub struct Cabled {
@@ -94,7 +91,7 @@ impl Layout for Cabled {
         if from >= self.wiring.nodes || to >= self.wiring.nodes {
             return None;
         }
-        WISH_ORDER
+        Port::TRIED
             .iter()
             .copied()
             .find(|&port| self.leads(from, to, port))

@@ -30,6 +30,9 @@ impl Port {
     // All ports, in slot order.
     pub const ALL: [Port; PORTS] = [Port::N, Port::E, Port::S, Port::W];
 
+    // All ports, in the order in which they are tried for one that serves.
+    pub const TRIED: [Port; PORTS] = [Port::E, Port::W, Port::N, Port::S];
+
     // The port's place among four, in slot order.
     pub fn index(self) -> usize
         ensures { result ≡ place_of self }
