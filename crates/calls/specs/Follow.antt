@@ -105,6 +105,10 @@ pub record Exactly (F : Fabric) (P : Settings) (ks : List Call) (os : List Outco
 abbrev pub Whole : Fabric → Tables → Type 0
 Whole F i = (ks : List Call) (os : List Outcome) (j : Tables) → Served F i ks os j → Exactly F i.settings ks os
 
+-- until its first set-up a network stands as if set up with these
+abbrev pub first_settings : Settings
+first_settings = record { tickets = 1; words = 1; epoch = 4096; seed = 1 }
+
 -- just set up, with the whole promise
 pub record Begins (F : Fabric) (P : Settings) (i : Tables) : Type 0 where
   pub settings : i.settings ≡ P
