@@ -1,14 +1,18 @@
 // What set-up fixes for a network.
-ghost use Rattle.std.specs.Prelude.{◌≡◌};
+ghost use Rattle.std.specs.Prelude.{◌≡◌, ◌≤◌};
 ghost use Rattle.fabric.specs.Refusals.{shown};
 ghost use Rattle.bounds.specs.SetUp.{set_up_verdict};
+ghost use Rattle.bounds.specs.Lateness.{latest};
 
 use fabric::layout::Layout;
+use fabric::parts::{NODES, WORDS};
 use fabric::refusal::Refusal;
 
-const MOST_TICKETS: usize = 8;
+// The tickets of a node, at most.
+pub const OWN: usize = 8;
 
-const MOST_WORDS: usize = 4;
+// All tickets of the largest network.
+pub const TICKETS: usize = NODES * OWN;
 
 const LONGEST_EPOCH: usize = 4096;
 
@@ -37,7 +41,7 @@ impl Settings {
             epoch,
             seed,
         } = *self;
-        if !matches!((tickets, words), (1..=MOST_TICKETS, 1..=MOST_WORDS)) {
+        if !matches!((tickets, words), (1..=OWN, 1..=WORDS)) {
             return Err(Refusal::Limits);
         }
         let shortest = words * (layout.reach() + 1);
@@ -48,5 +52,13 @@ impl Settings {
             return Err(Refusal::Seed);
         }
         Ok(())
+    }
+
+    // Within so many cycles of being injected a flit is ejected. The settings are judged already.
+    pub fn latest<L: Layout>(&self, layout: &L) -> usize
+        requires { (self.now.tickets ≤ 8) × (self.now.epoch ≤ 4096) }
+        ensures { result ≡ latest (L.plan layout.now) self.now }
+    {
+        (layout.nodes() * self.tickets + 1) * self.epoch
     }
 }

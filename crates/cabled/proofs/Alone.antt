@@ -5,10 +5,11 @@ use Rattle.std.proofs.lemmas.Bool.{ltb-true, and_parts, cond_both}
 use Rattle.fabric.specs.declared.parts.Port.{Port}
 use Rattle.fabric.specs.Layouts.{both}
 use Rattle.fabric.specs.declared.parts.Slot.{Slot}
+use Rattle.fabric.specs.Ports.{slot_number}
+use Rattle.fabric.specs.Places.{slot_below}
 use Rattle.cabled.specs.Cables.{Walk, Means, lone}
 use Rattle.cabled.specs.Cables.Walk.{stay}
-use Rattle.cabled.specs.Tables.{index, far_at, distance_at, wish_at, cabled_plan}
-use Rattle.cabled.proofs.Plugs.{index_lt}
+use Rattle.cabled.specs.Tables.{far_at, distance_at, wish_at, cabled_plan}
 
 -- what node 0 answers of itself, it answers of all
 only : {A : Type 0} (x : ℕ → ℕ → A) (y : A) → x 0 0 ≡ y → (m n : ℕ) → cond (both 1 m n) (x m n) y ≡ y
@@ -25,7 +26,7 @@ own : (n : ℕ) (p : Port) → cond (ltb n 1) (far_at (replicate 256 None) (reco
 own n p =
     let s : Slot = record { node = n; port = p } in
     cond_both (ltb n 1) (far_at (replicate 256 None) s) s (λ t. t ≡ s)
-    (λ b. ap (λ o. unwrap_or o s) (get_or-replicate 256 (index s) None None (index_lt s (omega (arith, ltb-true _ _ b)))))
+    (λ b. ap (λ o. unwrap_or o s) (get_or-replicate 256 (slot_number s) None None (slot_below s (omega (arith, ltb-true _ _ b)))))
     (λ _. refl)
 
 pub alone : cabled_plan 1 (replicate 256 None) (replicate 64 (replicate 64 0)) 0 ≡ lone

@@ -6,15 +6,10 @@ use Rattle.std.proofs.lemmas.Option.{same_Some}
 use Rattle.fabric.specs.declared.parts.Cable.{Cable}
 use Rattle.fabric.specs.declared.parts.Port.{Port}
 use Rattle.fabric.specs.declared.parts.Slot.{Slot}
-use Rattle.fabric.specs.Places.{place_below, slot_same}
+use Rattle.fabric.specs.Ports.{slot_number}
+use Rattle.fabric.specs.Places.{slot_below, slot_same, slot_cases}
 use Rattle.cabled.specs.Cables.{cable_at, Runs, Joined, Good}
-use Rattle.cabled.specs.Tables.{index, end_at, far_at, next_at, Paired, Wired, Free, Fits, plugged}
-
-pub index_lt : (s : Slot) → s.node < 64 → index s < 256
-index_lt s l = omega (arith, place_below s.port)
-
-cases_slot : (s t : Slot) → (s ≡ t) ⊎ (s ≡ t → ⊥)
-cases_slot s t = ⊎_elim (λ e. inl (slot_same s t e)) (λ e. inr (λ f. e (ap index f))) (cases_eq (index s) (index t))
+use Rattle.cabled.specs.Tables.{end_at, far_at, next_at, Paired, Wired, Free, Fits, plugged}
 
 none_if : (o : Option Slot) → ((t : Slot) → o ≡ Some t → ⊥) → o ≡ None
 none_if None h = refl
@@ -36,13 +31,13 @@ pub paired_none : (k : ℕ) → k ≤ 64 → Paired k (replicate 256 None)
 paired_none k few s l = (omega (arith, ap (λ (x : Slot). x.node) own), ap (far_at (replicate 256 None)) own ∙ own)
   where
     own : far_at (replicate 256 None) s ≡ s
-    own = ap (λ o. unwrap_or o s) (get_or-replicate 256 (index s) None None (index_lt s (omega arith)))
+    own = ap (λ o. unwrap_or o s) (get_or-replicate 256 (slot_number s) None None (slot_below s (omega arith)))
 
 pub wired_none : (k : ℕ) (cs : List Cable) → Wired k 0 cs (replicate 256 None)
 wired_none k cs = record {
   good = λ i l. absurd (omega arith);
   has = λ s t j. absurd (omega (arith, j.1));
-  only = λ s t l e. cc (get_or-replicate {A = Option Slot} 256 (index s) None None (index_lt s l), e);
+  only = λ s t l e. cc (get_or-replicate {A = Option Slot} 256 (slot_number s) None None (slot_below s l), e);
 }
 
 -- a good cable fits
@@ -59,18 +54,18 @@ module _ (k : ℕ) (few : k ≤ 64) (c : Cable) (ts : List (Option Slot)) (long 
 
   at_one : end_at after c.one ≡ Some c.other
   at_one =
-      get_or-set_other (set ts (index c.one) (Some c.other)) (index c.other) (index c.one) (Some c.one) None (λ e. fits.0 (slot_same c.one c.other e))
-      ∙ get_or-set_same ts (index c.one) (Some c.other) None (omega (arith, index_lt c.one (omega (arith, fits.1.0))))
+      get_or-set_other (set ts (slot_number c.one) (Some c.other)) (slot_number c.other) (slot_number c.one) (Some c.one) None (λ e. fits.0 (slot_same c.one c.other e))
+      ∙ get_or-set_same ts (slot_number c.one) (Some c.other) None (omega (arith, slot_below c.one (omega (arith, fits.1.0))))
 
   at_other : end_at after c.other ≡ Some c.one
   at_other =
-      get_or-set_same (set ts (index c.one) (Some c.other)) (index c.other) (Some c.one) None
-      (omega (arith, index_lt c.other (omega (arith, fits.2.0)), length-set ts (index c.one) (Some c.other)))
+      get_or-set_same (set ts (slot_number c.one) (Some c.other)) (slot_number c.other) (Some c.one) None
+      (omega (arith, slot_below c.other (omega (arith, fits.2.0)), length-set ts (slot_number c.one) (Some c.other)))
 
   at_rest : (s : Slot) → (s ≡ c.one → ⊥) → (s ≡ c.other → ⊥) → end_at after s ≡ end_at ts s
   at_rest s p q =
-      get_or-set_other (set ts (index c.one) (Some c.other)) (index c.other) (index s) (Some c.one) None (λ e. q (slot_same s c.other e))
-      ∙ get_or-set_other ts (index c.one) (index s) (Some c.other) None (λ e. p (slot_same s c.one e))
+      get_or-set_other (set ts (slot_number c.one) (Some c.other)) (slot_number c.other) (slot_number s) (Some c.one) None (λ e. q (slot_same s c.other e))
+      ∙ get_or-set_other ts (slot_number c.one) (slot_number s) (Some c.other) None (λ e. p (slot_same s c.one e))
 
   abbrev Leads : Slot → Slot → Type 0
   Leads s t = far_at after s ≡ t
@@ -82,7 +77,7 @@ module _ (k : ℕ) (few : k ≤ 64) (c : Cable) (ts : List (Option Slot)) (long 
   both s t l e f = (omega (arith, ap (λ (x : Slot). x.node) e), ap (far_at after) e ∙ f)
 
   pub paired_more : Paired k ts → Paired k after
-  paired_more paired s l = go (cases_slot s c.one) (cases_slot s c.other)
+  paired_more paired s l = go (slot_cases s c.one) (slot_cases s c.other)
     where
       one_other : Leads c.one c.other
       one_other = ap (λ o. unwrap_or o c.one) at_one
@@ -120,7 +115,7 @@ module _ (k i : ℕ) (few : k ≤ 64) (cs : List Cable) (ts : List (Option Slot)
       at_rest k few c ts long fits s (λ p. cc (ap (end_at ts) p ∙ fits.1.1, e)) (λ p. cc (ap (end_at ts) p ∙ fits.2.1, e)) ∙ e
 
   only_more : (s t : Slot) → s.node < 64 → end_at (plugged ts c) s ≡ Some t → Joined cs (i + 1) s t
-  only_more s t l e = go (cases_slot s c.one) (cases_slot s c.other)
+  only_more s t l e = go (slot_cases s c.one) (slot_cases s c.other)
     where
       go : (s ≡ c.one) ⊎ (s ≡ c.one → ⊥) → (s ≡ c.other) ⊎ (s ≡ c.other → ⊥) → Joined cs (i + 1) s t
       go (inl p) q = (i, omega arith, inl (sym p, same_Some c.other t (sym (ap (end_at (plugged ts c)) p ∙ at_one k few c ts long fits) ∙ e)))

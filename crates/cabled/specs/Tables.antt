@@ -5,17 +5,13 @@ use Rattle.fabric.specs.declared.parts.Cable.{Cable}
 use Rattle.fabric.specs.declared.parts.Port.{Port}
 use Rattle.fabric.specs.declared.parts.Slot.{Slot}
 use Rattle.fabric.specs.Layouts.{Plan, both}
-use Rattle.fabric.specs.Ports.{place_of, first}
+use Rattle.fabric.specs.Ports.{slot_number, first}
 use Rattle.cabled.specs.Cables.{AllGood, Joined}
 use Rattle.cabled.specs.Levels.{Steps}
 
--- the place of a slot in a table that has four for each node
-abbrev pub index : Slot → ℕ
-index s = s.node * 4 + place_of s.port
-
--- the other end of the cable in a port, if there is one
+-- a table has a place for each slot: the other end of the cable in a port, if there is one
 abbrev pub end_at : List (Option Slot) → Slot → Option Slot
-end_at ts s = slice_index_or ts (index s) None
+end_at ts s = slice_index_or ts (slot_number s) None
 
 -- where a port leads
 abbrev pub far_at : List (Option Slot) → Slot → Slot
@@ -72,7 +68,7 @@ Fits k ts c = (c.one ≢ c.other) × Free k ts c.one × Free k ts c.other
 
 -- one cable more
 abbrev pub plugged : List (Option Slot) → Cable → List (Option Slot)
-plugged ts c = slice_set (slice_set ts (index c.one) (Some c.other)) (index c.other) (Some c.one)
+plugged ts c = slice_set (slice_set ts (slot_number c.one) (Some c.other)) (slot_number c.other) (Some c.one)
 
 -- the table has the first n of the cables, which are good, and no others
 pub record Wired (k n : ℕ) (cs : List Cable) (ts : List (Option Slot)) : Type 0 where

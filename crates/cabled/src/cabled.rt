@@ -5,13 +5,10 @@ ghost use Rattle.cabled.specs.Cables.{Means, lone, Cabling};
 ghost use Rattle.cabled.specs.Tables.{leads, Within, Nearing};
 
 use super::rounds::Spans;
-use super::wiring::{NODES, Wiring};
+use super::wiring::Wiring;
 use fabric::layout::Layout;
-use fabric::parts::{Cable, Port, Slot};
+use fabric::parts::{Cable, NODES, Port, Slot};
 use fabric::refusal::Refusal;
-
-// The order in which ports are tried for a wish.
-const WISH_ORDER: [Port; 4] = [Port::E, Port::W, Port::N, Port::S];
 
 // The layout that a list of cables makes.
 #[derive(Clone, Copy)]
@@ -94,7 +91,7 @@ impl Layout for Cabled {
         if from >= self.wiring.nodes || to >= self.wiring.nodes {
             return None;
         }
-        WISH_ORDER
+        Port::TRIED
             .iter()
             .copied()
             .find(|&port| self.leads(from, to, port))

@@ -5,8 +5,8 @@ ghost use Rattle.std.specs.Option.{unwrap_or};
 ghost use Rattle.cabled.specs.Levels.{any, at, again, NoWay, Steps, Level};
 ghost use Rattle.cabled.specs.Tables.{next_at, Measured};
 
-use super::wiring::{NODES, Wiring};
-use fabric::parts::{Port, Slot};
+use super::wiring::Wiring;
+use fabric::parts::{NODES, Port, Slot};
 use fabric::refusal::Refusal;
 
 // A shortest way visits no node twice, so it has at most this many steps.

@@ -1,24 +1,10 @@
 // Which ports the cables join.
 ghost use Rattle.std.specs.Prelude.{◌≡◌, ℕ, None, ◌<◌, Ok, Err, length, replicate, Decides};
 ghost use Rattle.cabled.specs.Cables.{Fair, Good, AllGood};
-ghost use Rattle.cabled.specs.Tables.{index, far_at, Free, Fits, plugged, Paired, Wired};
+ghost use Rattle.cabled.specs.Tables.{far_at, Free, Fits, plugged, Paired, Wired};
 
-use fabric::parts::{Cable, Slot};
+use fabric::parts::{Cable, SLOTS, Slot};
 use fabric::refusal::Refusal;
-
-pub(crate) const NODES: usize = 64;
-
-const PORTS: usize = 4;
-
-const SLOTS: usize = NODES * PORTS;
-
-// The place of a port in the table.
-fn place(slot: Slot) -> usize
-    requires { slot.node < 64 }
-    ensures { (result ≡ index slot) × (result < 256) }
-{
-    slot.node * PORTS + slot.port.index()
-}
 
 // So many nodes, and for each port the other end of its cable, if there is one.
 #[derive(Clone, Copy)]
@@ -63,14 +49,14 @@ impl Wiring {
         ensures led { result ≡ far_at self.now.ends slot }
         ensures inside { result.node < self.now.nodes }
     {
-        self.ends[place(slot)].unwrap_or(slot)
+        self.ends[slot.number()].unwrap_or(slot)
     }
 
     // Whether the node exists and no cable is in the port.
     fn is_free(&self, slot: Slot) -> bool
         ensures { Decides result (Free self.now.nodes self.now.ends slot) }
     {
-        slot.node < self.nodes && self.ends[place(slot)].is_none()
+        slot.node < self.nodes && self.ends[slot.number()].is_none()
     }
 
     // Whether the cable has two ends, both at free ports.
@@ -86,7 +72,7 @@ impl Wiring {
         ensures nodes { self.new.nodes ≡ self.old.nodes }
         ensures ends { self.new.ends ≡ plugged self.old.ends cable }
     {
-        self.ends[place(cable.one)] = Some(cable.other);
-        self.ends[place(cable.other)] = Some(cable.one);
+        self.ends[cable.one.number()] = Some(cable.other);
+        self.ends[cable.other.number()] = Some(cable.one);
     }
 }

@@ -1,6 +1,7 @@
 -- What a look answers.
-use Rattle.std.proofs.Common.{◌≡◌, ℕ, ◌+◌, ◌*◌, ◌<◌, ◌≤◌, ◌⊎◌, [], get_or, None, sym, refl, ap, ◌∙◌, inl, inr}
+use Rattle.std.proofs.Common.{◌≡◌, ℕ, ◌+◌, ◌*◌, ◌<◌, ◌≤◌, ◌⊎◌, [], Option, sym, refl, ap, ◌∙◌, inl, inr}
 use Rattle.std.proofs.lemmas.Bool.{le-leb, lt-leb, or_left, or_right, or_from, cond-true, cond-false}
+use Rattle.fabric.specs.declared.parts.Flit.{Flit}
 use Rattle.fabric.specs.Ports.{port_of}
 use Rattle.fabric.specs.Verdicts.{Verdict}
 use Rattle.fabric.specs.Verdicts.Verdict.{granted, refused}
@@ -10,7 +11,7 @@ use Rattle.network.specs.Runs.{look_verdict}
 use Rattle.network.specs.Runs.Call.{look}
 use Rattle.network.specs.Runs.Outcome.{looking}
 use Rattle.calls.specs.declared.tables.Tables.{Tables}
-use Rattle.calls.specs.Follow.{Shows}
+use Rattle.calls.specs.Follow.{Shows, slot_of}
 use Rattle.calls.proofs.Promising.{Works, nothing_done}
 
 module _ (F : Fabric) (i : Tables) (n k : ℕ) where
@@ -21,8 +22,8 @@ module _ (F : Fabric) (i : Tables) (n k : ℕ) where
   no_look (inl h) = looked _ (λ s sh. sym (cond-true _ _ _ (or_left _ _ (le-leb F.plan.nodes n h))))
   no_look (inr h) = looked _ (λ s sh. sym (cond-true _ _ _ (or_right _ _ (le-leb 4 k h))))
 
-  pub a_look : n < F.plan.nodes → k < 4 → Works F i i (look n k) (looking (granted (get_or i.slots (4 * n + k) None)))
-  a_look h l =
+  pub a_look : (o : Option Flit) → o ≡ slot_of i.slots n (port_of k) → n < F.plan.nodes → k < 4 → Works F i i (look n k) (looking (granted o))
+  a_look o e h l =
       looked _ (λ s sh.
-      ap granted (ap (λ j. get_or i.slots (4 * n + j) None) (sym (place_of_port k l)) ∙ sh.slots n (port_of k) h)
+      ap granted (e ∙ sh.slots n (port_of k) h)
       ∙ sym (cond-false _ _ _ (or_from _ _ (lt-leb F.plan.nodes n h) (lt-leb 4 k l))))

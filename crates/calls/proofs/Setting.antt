@@ -18,7 +18,7 @@ use Rattle.calls.specs.declared.tables.Tables.{Tables}
 use Rattle.calls.specs.declared.ticket.Ticket.{Ticket}
 use Rattle.calls.specs.Fits.{Fits}
 use Rattle.calls.specs.Records.{Starts}
-use Rattle.calls.specs.Follow.{Entry, Follows, Begins, slot_of}
+use Rattle.calls.specs.Follow.{Entry, Follows, first_settings, Begins, slot_of}
 use Rattle.calls.proofs.Promising.{whole}
 
 pub ticket_below : (F : Fabric) → Lawful F.plan → (P : Settings) → P.tickets ≤ 8 → all_tickets F.plan P ≤ 512
@@ -57,9 +57,9 @@ begin F law i P x ok =
 pub begins : (F : Fabric) → Lawful F.plan → LawfulSwitch F.turn → (i : Tables) (P : Settings) → Starts i P → set_up_verdict F.plan P ≡ granted tt → Begins F P i
 begins F law sw i P x ok = let b = begin F law i P x ok in record { settings = x.settings; follows = b; whole = whole law sw i b.lawful b }
 
--- as a network stands before any set-up
-pub first_settings : (p : Plan) → Lawful p → set_up_verdict p (record { tickets = 1; words = 1; epoch = 4096; seed = 1 }) ≡ granted tt
-first_settings p law =
+-- what a network begins with, set-up would accept
+pub first_accepted : (p : Plan) → Lawful p → set_up_verdict p first_settings ≡ granted tt
+first_accepted p law =
     cond-false _ _ _ (or_from _ _ (le-ltb 4096 (1 * (p.reach + 1)) (let h = law.near in omega arith)) refl)
 
 -- what set-up accepts fits

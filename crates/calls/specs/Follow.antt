@@ -2,7 +2,7 @@
 use Rattle.std.specs.Prelude.{◌≡◌, ℕ, ◌+◌, ◌*◌, ◌<◌, ◌≤◌, not, List, [], ◌∷◌, ◌++◌, Some, None, Option, is_some, slice_index, slice_index_or}
 use Rattle.fabric.specs.declared.parts.Port.{Port}
 use Rattle.fabric.specs.declared.parts.Flit.{Flit}
-use Rattle.fabric.specs.Ports.{place_of}
+use Rattle.fabric.specs.Ports.{slot_number}
 use Rattle.fabric.specs.Verdicts.{Verdict}
 use Rattle.fabric.specs.Verdicts.Verdict.{granted, refused}
 use Rattle.bounds.specs.declared.settings.Settings.{Settings}
@@ -18,7 +18,7 @@ use Rattle.calls.specs.declared.tables.Tables.{Tables}
 use Rattle.calls.specs.Records.{all_waiting}
 
 abbrev pub slot_of : List (Option Flit) → ℕ → Port → Option Flit
-slot_of xs n p = slice_index_or xs (4 * n + place_of p) None
+slot_of xs n p = slice_index_or xs (slot_number (record { node = n; port = p })) None
 
 -- the record of a ticket shows what a log says of its packet
 pub record Recorded (r : Ticket) (t : ℕ) (l : log.Log) : Type 0 where
@@ -105,6 +105,10 @@ pub record Exactly (F : Fabric) (P : Settings) (ks : List Call) (os : List Outco
 -- the whole promise: whatever calls are made from here, however many, and whichever of them are refused
 abbrev pub Whole : Fabric → Tables → Type 0
 Whole F i = (ks : List Call) (os : List Outcome) (j : Tables) → Served F i ks os j → Exactly F i.settings ks os
+
+-- until its first set-up a network stands as if set up with these
+abbrev pub first_settings : Settings
+first_settings = record { tickets = 1; words = 1; epoch = 4096; seed = 1 }
 
 -- just set up, with the whole promise
 pub record Begins (F : Fabric) (P : Settings) (i : Tables) : Type 0 where

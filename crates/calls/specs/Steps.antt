@@ -5,7 +5,7 @@ use Rattle.std.specs.Option.{is_none}
 use Rattle.fabric.specs.declared.parts.Port.TheVariants.{N, E, S, W}
 use Rattle.fabric.specs.declared.parts.Flit.{Flit}
 use Rattle.fabric.specs.Layouts.{Plan}
-use Rattle.fabric.specs.Ports.{place_of}
+use Rattle.fabric.specs.Ports.{place_of, slot_number}
 use Rattle.switch.specs.Switches.{at}
 
 -- no flit stands at any of the four
@@ -14,7 +14,7 @@ none_at here = (is_none (here N) && is_none (here E)) && (is_none (here S) && is
 
 -- the place in the table of slots that a node's port leads to
 abbrev pub far_place : Plan → ℕ → Port → ℕ
-far_place p n q = 4 * (p.far n q).node + place_of (p.far n q).port
+far_place p n q = slot_number (p.far n q)
 
 pub record Spread (p : Plan) (n : ℕ) (leaving before after : List (Option Flit)) : Type 0 where
   pub sent : (q : Port) → slice_index_or after (far_place p n q) None ≡ at leaving q

@@ -6,16 +6,16 @@ ghost use Rattle.bounds.specs.SetUp.{set_up_verdict};
 ghost use Rattle.bounds.specs.Lateness.{latest};
 ghost use Rattle.network.specs.Runs.Call.{offer as offers, cycle as cycles, collect as collects, look as looks};
 ghost use Rattle.network.specs.Runs.Outcome.{offering, cycling, collecting, looking};
-ghost use Rattle.calls.specs.Follow.{Promised, Begins, StaysInTime};
+ghost use Rattle.calls.specs.Follow.{Promised, first_settings, Begins, StaysInTime};
 ghost use Rattle.calls.specs.Steps.{Unsent};
 ghost use Rattle.calls.specs.Midway.{Sent, NodeWorks};
 ghost use Rattle.calls.specs.Networks.{fabric_of, SameParts};
 
 use super::steps::{are_empty, spread, wishes};
-use super::tables::{PORTS, SLOTS, Tables};
+use super::tables::Tables;
 use bounds::settings::Settings;
 use fabric::layout::Layout;
-use fabric::parts::Flit;
+use fabric::parts::{Flit, PORTS, Port, SLOTS, Slot};
 use fabric::refusal::Refusal;
 use line::Line;
 use network::event::Event;
@@ -43,7 +43,7 @@ pub struct Network<L, S> {
 
 impl<L: Layout, S: Switch> Network<L, S> {
     pub fn new(layout: L, switch: S) -> Network<L, S>
-        ensures begins { Begins (fabric_of L.plan S.turn result) (record { tickets = 1; words = 1; epoch = 4096; seed = 1 }) result.inner }
+        ensures begins { Begins (fabric_of L.plan S.turn result) first_settings result.inner }
         ensures parts { (result.layout ≡ layout) × (result.switch ≡ switch) }
     {
         let inner = Tables::fresh(FIRST);
@@ -72,9 +72,7 @@ impl<L: Layout, S: Switch> Network<L, S> {
         ensures exact { result ≡ latest (L.plan self.now.layout) self.now.inner.settings }
         ensures promised { StaysInTime (fabric_of L.plan S.turn self.now) self.now.inner result }
     {
-        // The number that `Limits` answers, which judges settings first: those of a network are judged already.
-        let Settings { tickets, epoch, .. } = self.inner.settings;
-        (self.layout.nodes() * tickets + 1) * epoch
+        self.inner.settings.latest(&self.layout)
     }
 
     // Hands a packet to a node for sending, under one of its own tickets, which are numbered from 0.
@@ -143,7 +141,11 @@ impl<L: Layout, S: Switch> Network<L, S> {
         if node >= self.layout.nodes() || port >= PORTS {
             return Err(Refusal::Missing);
         }
-        Ok(self.inner.slots[PORTS * node + port])
+        let slot = Slot {
+            node,
+            port: Port::ALL[port],
+        };
+        Ok(self.inner.slots[slot.number()])
     }
 
     // The switch sends the flits in the places of a node on to the far ends of its ports.

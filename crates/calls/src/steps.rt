@@ -6,9 +6,8 @@ ghost use Rattle.network.specs.Cycle.{in_slot_order, wish_of};
 ghost use Rattle.network.specs.Computed.{due as is_due, better as is_better, best as is_best, ahead as is_ahead, gap as is_gap};
 ghost use Rattle.calls.specs.Steps.{none_at, far_place, Spread, Unsent};
 
-use super::tables::{PORTS, SLOTS};
 use fabric::layout::Layout;
-use fabric::parts::{Flit, Port};
+use fabric::parts::{Flit, Port, SLOTS};
 use switch::rank::Rank;
 
 // Whether no flit stands in any of the places.
@@ -103,8 +102,7 @@ fn far<L: Layout>(layout: &L, node: usize, k: usize) -> usize
     ensures is { result ≡ far_place (L.plan layout.now) node (port_of k) }
     ensures below { result < 256 }
 {
-    let to = layout.far_end(node, Port::ALL[k]);
-    PORTS * to.node + to.port.index()
+    layout.far_end(node, Port::ALL[k]).number()
 }
 
 // Each flit goes to its port's far end. Where none leaves, nothing is written: the far end is empty, and no other node sends there.

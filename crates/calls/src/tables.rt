@@ -3,24 +3,13 @@ ghost use Rattle.calls.specs.Fits.{Fits};
 
 use super::ticket::Ticket;
 use batch::Batch;
-use bounds::settings::Settings;
-use fabric::parts::Flit;
+use bounds::settings::{OWN, Settings, TICKETS};
+use fabric::parts::{Flit, NODES, SLOTS};
 
 mod methods;
 mod work;
 
 // Nodes and tickets are plain numbers, as in a layout: a type of their own would have to be unwrapped at each index. So the steps ask for `node < 64`.
-pub(crate) const NODES: usize = 64;
-
-pub(crate) const PORTS: usize = 4;
-
-pub(crate) const SLOTS: usize = NODES * PORTS;
-
-pub(crate) const TICKETS: usize = 512;
-
-// tickets of one node, at most
-pub(crate) const OWN: usize = 8;
-
 #[derive(Drop)]
 pub(crate) struct Tables {
     pub settings: Settings,

@@ -1,7 +1,7 @@
 // The record of a ticket that is taken.
-mod methods;
+use fabric::parts::WORDS;
 
-pub(crate) const WORDS: usize = 4;
+mod methods;
 
 // The packet under a ticket, how much of it is sent, and the words received in place.
 #[derive(Clone, Copy)]

@@ -18,24 +18,6 @@ sides zero h p q = omega arith
 sides (suc a) zero p q = omega arith
 sides (suc a) (suc b) p q = omega (arith, mul-suc (suc a) b, suc-mul a b)
 
--- where the sides are not fair, the mesh is refused
-pub unfair : (w h : ℕ) → (Fair w h → ⊥) → refused 12 [] ≡ mesh_verdict w h
-unfair w h no_mesh = go (w == 0) refl (h == 0) refl (nat_lt 64 (w * h)) refl
-  where
-    go : (a : Bool) → (w == 0) ≡ a → (b : Bool) → (h == 0) ≡ b → (c : Bool) → nat_lt 64 (w * h) ≡ c →
-        refused 12 [] ≡ cond (a || b || c) (refused 12 []) (granted (mesh_plan w h))
-    go true d b e c f = refl
-    go false d true e c f = refl
-    go false d false e true f = refl
-    go false d false e false f =
-        let p = eqb-false w 0 d in
-        let q = eqb-false h 0 e in
-        absurd (no_mesh (pos w p, pos h q, ltb-false 64 (w * h) f))
-      where
-        pos : (n : ℕ) → (n ≢ 0) → 0 < n
-        pos zero p = absurd (p refl)
-        pos (suc n) p = omega arith
-
 -- what a wish says of the columns and rows
 towards-E : (x y u v : ℕ) → towards x y u v ≡ Some E → x < u
 towards-E x y u v e = grind (arith, nat_tests)

@@ -1,8 +1,9 @@
--- The four ports, by number and by letter, and the order in which they are tried.
-use Rattle.std.specs.Prelude.{ℕ, zero, suc, Bool, List, [], ◌∷◌, codes, Option, ◌==◌}
+-- The four ports, by number and by letter, and the order in which they are tried; slots by number.
+use Rattle.std.specs.Prelude.{ℕ, zero, suc, ◌+◌, ◌*◌, Bool, List, [], ◌∷◌, codes, Option, ◌==◌}
 use Rattle.std.specs.List.{find}
 use Rattle.fabric.specs.declared.parts.Port.{Port}
 use Rattle.fabric.specs.declared.parts.Port.TheVariants.{N, E, S, W}
+use Rattle.fabric.specs.declared.parts.Slot.{Slot}
 
 -- slot order
 abbrev pub place_of : Port → ℕ
@@ -16,6 +17,10 @@ port_of zero = N
 port_of (suc zero) = E
 port_of (suc (suc zero)) = S
 port_of (suc (suc (suc k))) = W
+
+-- the slots are numbered node by node, four of each in slot order
+abbrev pub slot_number : Slot → ℕ
+slot_number s = 4 * s.node + place_of s.port
 
 abbrev pub same : Port → Port → Bool
 same p q = place_of p == place_of q

@@ -6,11 +6,9 @@ ghost use Rattle.fabric.specs.Meshes.{Fair, mesh_plan, mesh_verdict, spot};
 ghost use Rattle.fabric.specs.Grid.{mesh_lawful};
 
 use super::layout::Layout;
-use super::parts::{Port, Slot};
+use super::parts::{NODES, Port, Slot};
 use super::refusal::Refusal;
 use std::cmp::Ordering;
-
-const MOST_NODES: usize = 64;
 
 #[derive(Clone, Copy, Debug)]
 pub struct Mesh {
@@ -24,7 +22,7 @@ impl Mesh {
         ensures { granting ⟦<Mesh as Layout>⟧.plan (shown result) ≡ mesh_verdict width height }
     {
         match width.checked_mul(height) {
-            Some(1..=MOST_NODES) => Ok(Mesh { width, height }),
+            Some(1..=NODES) => Ok(Mesh { width, height }),
             _ => Err(Refusal::Nodes),
         }
     }

@@ -1,8 +1,20 @@
 // Ports, slots, cables and flits.
-ghost use Rattle.std.specs.Prelude.{◌≡◌, Some};
-ghost use Rattle.fabric.specs.Ports.{place_of, letter};
+ghost use Rattle.std.specs.Prelude.{◌≡◌, ◌<◌, Some};
+ghost use Rattle.fabric.specs.Ports.{place_of, letter, slot_number};
 
 use std::fmt;
+
+// The nodes of the largest layout.
+pub const NODES: usize = 64;
+
+// The ports of a node.
+pub const PORTS: usize = 4;
+
+// The slots of the largest layout.
+pub const SLOTS: usize = NODES * PORTS;
+
+// The words of the longest packet.
+pub const WORDS: usize = 4;
 
 // A side of a node, by which flits arrive and leave. The order N, E, S, W is slot order: the four places of a node are numbered by it, from 0.
 #[derive(Clone, Copy, PartialEq, Eq, Debug, Default)]
@@ -16,7 +28,10 @@ pub enum Port {
 
 impl Port {
     // All ports, in slot order.
-    pub const ALL: [Port; 4] = [Port::N, Port::E, Port::S, Port::W];
+    pub const ALL: [Port; PORTS] = [Port::N, Port::E, Port::S, Port::W];
+
+    // All ports, in the order in which they are tried for one that serves.
+    pub const TRIED: [Port; PORTS] = [Port::E, Port::W, Port::N, Port::S];
 
     // The port's place among four, in slot order.
     pub fn index(self) -> usize
@@ -44,6 +59,17 @@ impl fmt::Display for Port {
 pub struct Slot {
     pub node: usize,
     pub port: Port,
+}
+
+impl Slot {
+    // The slot's number among those of all nodes, four of each in slot order.
+    pub fn number(self) -> usize
+        requires { self.node < 64 }
+        ensures is { result ≡ slot_number self }
+        ensures below { result < 256 }
+    {
+        PORTS * self.node + self.port.index()
+    }
 }
 
 // A cable joins two ports, of one node or of two.

@@ -4,11 +4,11 @@ use Rattle.fabric.specs.declared.parts.Cable.{Cable}
 use Rattle.fabric.specs.Layouts.{Plan}
 use Rattle.fabric.specs.Verdicts.{Verdict}
 use Rattle.fabric.specs.Verdicts.Verdict.{granted, refused}
-use Rattle.fabric.specs.Places.{place_below, slot_same}
+use Rattle.fabric.specs.Places.{slot_below, slot_same}
 use Rattle.fabric.proofs.Pigeons.{apiece}
 use Rattle.cabled.specs.Cables.{Cabling, lone, cable_at, Fair, AllGood}
 use Rattle.cabled.specs.Cables.Cabling.{unfair, bad, unreached, cabled}
-use Rattle.cabled.specs.Tables.{index}
+use Rattle.fabric.specs.Ports.{slot_number}
 use Rattle.text.specs.declared.fault.Fault.{Fault}
 use Rattle.text.specs.declared.parts.Shape.{Shape}
 use Rattle.text.specs.Faults.{told}
@@ -40,7 +40,7 @@ refused_alone (unreached f g n l h) = unreached f g n l h
 module _ (k : ℕ) (cs : List Cable) (f : Fair k) where
   -- the number of the slot that a cable begins at
   abbrev head : ℕ → ℕ
-  head i = index (cable_at cs i).one
+  head i = slot_number (cable_at cs i).one
 
   -- good cables begin at slots that are apart, and there are 256 slots
   few_good : (n : ℕ) → AllGood k cs n → n ≤ 256
@@ -50,9 +50,7 @@ module _ (k : ℕ) (cs : List Cable) (f : Fair k) where
       inside i l =
           let c = cable_at cs i in
           let there : c.one.node < k = (g i l).there c.one c.other (inl (refl, refl)) in
-          let r = place_below c.one.port in
-          let most = f.1 in
-          omega arith
+          slot_below c.one (omega (arith, f.1))
 
       differ : (i j : ℕ) → j < i → i < n → head i ≡ head j → ⊥
       differ i j l h e =

@@ -1,6 +1,6 @@
 -- The lines of a layout and its settings have one report, and a plan that it answers is lawful.
 use Rattle.std.proofs.Common.{◌≡◌, ℕ, ◌*◌, ◌<◌, ◌≤◌, Bool, true, false, cond, ◌||◌, eqb, ltb, ◌⊎◌, List, [], ◌∷◌, length, Some, None, Option, sym, refl, ap, ◌∙◌, subst, inl, inr, ⊎_elim, arith}
-use Rattle.std.proofs.lemmas.Bool.{cases_eq, cases_lt}
+use Rattle.std.proofs.lemmas.Bool.{cases_eq, cases_lt, cond_both}
 use Rattle.std.proofs.lemmas.Bool.Decides.{nat_tests}
 use Rattle.fabric.specs.declared.parts.Cable.{Cable}
 use Rattle.fabric.specs.declared.parts.Port.{Port}
@@ -21,8 +21,8 @@ use Rattle.laying.specs.Reports.{Report, by_layer, then}
 use Rattle.laying.specs.Reports.Report.{answers, faults}
 use Rattle.laying.specs.Layings.{Laid, Judged, settings_of, settled, layout_line}
 use Rattle.fabric.specs.Ports.{looked_at}
-use Rattle.fabric.specs.Places.{slot_same, looked_at_same}
-use Rattle.cabled.specs.Tables.{index}
+use Rattle.fabric.specs.Places.{slot_cases, looked_at_same}
+use Rattle.fabric.proofs.Refused.{unfit, fair}
 
 -- two plans of one list of cables: distances are fewest cables, and the rest follows
 module _ {k : ℕ} {cs : List Cable} {p q : Plan} (a : Means k cs p) (b : Means k cs q) (law : Lawful p) (law' : Lawful q) where
@@ -30,12 +30,11 @@ module _ {k : ℕ} {cs : List Cable} {p q : Plan} (a : Means k cs p) (b : Means 
   same_far n s =
       let t : Slot = record { node = n; port = s } in
       ⊎_elim
-      (λ e. slot_same (p.far n s) (q.far n s) e)
-      (λ e.
-      let other : p.far n s ≡ q.far n s → ⊥ = λ h. e (ap index h) in
+      (λ e. e)
+      (λ other.
       let none : (u : Slot) → Joined cs (length cs) t u → ⊥ = λ u j. other (a.plugged t u j ∙ sym (b.plugged t u j)) in
       absurd (other (a.bare t none ∙ sym (b.bare t none))))
-      (cases_eq (index (p.far n s)) (index (q.far n s)))
+      (slot_cases (p.far n s) (q.far n s))
 
   -- of a node that is missing, all say the same
   same_of : {A : Type 0} (f : Plan → ℕ → ℕ → A) (x : A) →
@@ -133,14 +132,10 @@ one_judgement x cs run r s a b = a.2 ∙ ap (λ l. then l (settled run)) (one_la
 
 -- the plan that is answered is lawful
 mesh_law : (w h : ℕ) (p : Plan) → answers p ≡ by_layer Layout layout_line (mesh_verdict w h) → Lawful p
-mesh_law w h p = go (eqb w 0 || eqb h 0 || ltb 64 (w * h)) refl
-  where
-    fair : (eqb w 0 || eqb h 0 || ltb 64 (w * h)) ≡ false → Fair w h
-    fair e = grind (arith, nat_tests)
-
-    go : (b : Bool) → (eqb w 0 || eqb h 0 || ltb 64 (w * h)) ≡ b → answers p ≡ by_layer Layout layout_line (cond b (refused 12 []) (granted (mesh_plan w h))) → Lawful p
-    go true t e = cc
-    go false t e = let s : mesh_plan w h ≡ p = cc in subst Lawful s (mesh_lawful w h (fair t))
+mesh_law w h p =
+    cond_both (unfit w h) (refused 12 []) (granted (mesh_plan w h)) (λ v. answers p ≡ by_layer Layout layout_line v → Lawful p)
+    (λ t e. cc)
+    (λ t e. let s : mesh_plan w h ≡ p = cc in subst Lawful s (mesh_lawful w h (fair w h t)))
 
 laid_law : (x : Shape) (cs : List Cable) (p : Plan) → Laid x cs (answers p) → Lawful p
 laid_law (Mesh w h) cs p e = mesh_law w h p e

@@ -11,9 +11,10 @@ use bounds::path::{farthest, path};
 use fabric::layout::Layout;
 use lines::{Lines, Path};
 use std::io::Read;
+use text::lines::MOST_BYTES;
 
 // One byte more than a sheet may have is enough to see that it is too long.
-const MOST_READ: u64 = 65537;
+const MOST_READ: u64 = MOST_BYTES as u64 + 1;
 
 fn report<L: Layout>(rt: &HostRuntime, layout: &L, limits: Limits) -> anyhow::Result<()> {
     print!(rt; "{}", Lines(limits))?;

@@ -1,31 +1,15 @@
 -- Every run of uses is first in, first out.
 use Rattle.std.proofs.Common.{◌≡◌, ◌+◌, ◌<◌, Bool, true, false, cond, eqb, List, [], ◌∷◌, ◌++◌, length, sym, refl, ap, ◌∙◌, append_assoc, append-nil, zero-le, mod-lt, arith}
 use Rattle.std.proofs.lemmas.List.{length-set}
-use Rattle.std.proofs.lemmas.Bool.{cond-true, cond-false, cond_both, eq-eqb, ne_eqb, eqb-true, eqb-false}
+use Rattle.std.proofs.lemmas.Bool.{cond_both, eqb-true, eqb-false}
 use Rattle.std.specs.Option.{option_to_list}
 use Rattle.std.specs.Prelude.{slice_get}
 use Rattle.line.specs.Queues.{Queue, Sound, contents, oldest, free_places, full, place, put, take}
-use Rattle.line.specs.Runs.{Use, used, goes_in, comes_out, after, taken, FirstOut, Continues}
+use Rattle.line.specs.Runs.{Use, used, goes_in, comes_out, after, taken, FirstOut}
 use Rattle.line.specs.Runs.Use.{puts, takes}
 use Rattle.line.proofs.Contents.{nothing_held, put_contents, take_contents}
 
 module _ {A : Type 0} where
-  -- where a put leads with room and without, and a take with something held and with nothing
-  pub room : (q : Queue A) → q.held < length q.memory → full q ≡ false
-  room q h = ne_eqb (free_places q) 0 (λ z. omega arith)
-
-  pub put_room : (q : Queue A) (x : A) → q.held < length q.memory → used q (puts x) ≡ put q x
-  put_room q x h = cond-false (full q) q (put q x) (room q h)
-
-  pub put_full : (q : Queue A) (x : A) → full q ≡ true → used q (puts x) ≡ q
-  put_full q x h = cond-true (full q) q (put q x) h
-
-  pub take_some : (q : Queue A) → 0 < q.held → used q takes ≡ take q
-  take_some q h = cond-false (eqb q.held 0) q (take q) (ne_eqb q.held 0 (λ z. omega arith))
-
-  pub take_none : (q : Queue A) → q.held ≡ 0 → used q takes ≡ q
-  take_none q h = cond-true (eqb q.held 0) q (take q) (eq-eqb q.held 0 h)
-
   pub sound_used : (q : Queue A) → Sound q → (u : Use A) → Sound (used q u)
   sound_used q s (puts x) =
       cond_both (full q) q (put q x) Sound (λ _. s)
@@ -69,6 +53,3 @@ module _ {A : Type 0} where
       ∙ append_assoc (taken ms run) (contents q) (goes_in q u)
       ∙ ap (λ l. taken ms run ++ l) (in_order q (sound_after ms run) u)
       ∙ sym (append_assoc (taken ms run) (comes_out q u) (contents (used q u)))
-
-  pub continues : (q : Queue A) (u : Use A) (r : Queue A) → r ≡ used q u → Continues q u r
-  continues q u r e ms run f = (e ∙ ap (λ p. used p u) f, first_out ms (u ∷ run))

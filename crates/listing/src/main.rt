@@ -4,9 +4,10 @@
 use anyhow::anyhow;
 use runner::list::{MEMORY, list};
 use std::io::{Read, Write};
+use text::lines::MOST_BYTES;
 
 // One byte more than a sheet may have is enough to see that it is too long.
-const MOST_READ: u64 = 65537;
+const MOST_READ: u64 = MOST_BYTES as u64 + 1;
 
 fn main(rt: HostRuntime) -> anyhow::Result<()> {
     let mut sheet = Vec::new(rt.alloc());

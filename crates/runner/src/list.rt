@@ -5,8 +5,9 @@ ghost use Rattle.writer.specs.Listings.{SameLender};
 ghost use Rattle.runner.specs.Answering.{made_of, network_of, OneListing, WrittenOut, Blank, Runnable, Ran, Ended, Carried};
 
 use super::planned::Planned;
-use super::session::{Session, TICKETS};
+use super::session::Session;
 use super::tally::Tally;
+use bounds::settings::TICKETS;
 use calls::Network;
 use fabric::layout::Layout;
 use fabric::refusal::Refusal;
@@ -17,11 +18,12 @@ use switch::bless::Bless;
 use switch::chipper::Chipper;
 use switch::switch::Switch;
 use text::fault::Fault;
+use text::lines::MOST_BYTES;
 use text::parts::{MOST_PACKETS, Packet, Shape, SwitchKind};
 use writer::Writer;
 
-// No listing is longer; a shorter memory is refused.
-pub const MEMORY: usize = 65536;
+// A listing is a text too, and none is longer; a shorter memory is refused.
+pub const MEMORY: usize = MOST_BYTES;
 
 // Sets up a network of this layout and this switch, and carries out the sheet's run in it.
 fn set_up_and_play<L: Layout + Drop, S: Switch + Drop>(

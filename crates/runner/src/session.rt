@@ -1,13 +1,12 @@
 // The run of a sheet.
 use super::tally::Tally;
+use bounds::settings::TICKETS;
 use calls::Network;
 
 mod collections;
 mod cycles;
 mod offers;
 mod turns;
-
-pub(crate) const TICKETS: usize = 512;
 
 // A network under way, and what its listing needs beside it.
 // Each step passes a refusal of the writer up by `?`, though its contract says that it answers `Ok`: the type can't say so.

@@ -4,10 +4,9 @@ use Rattle.std.proofs.Common.{sym, ◌∙◌, ap, subst, subst₂, inl, inr, ari
 use Rattle.std.proofs.lemmas.Bool.{cases_lt}
 use Rattle.std.proofs.lemmas.Option.{same_Some}
 use Rattle.fabric.specs.declared.parts.Port.{Port}
-use Rattle.fabric.specs.declared.parts.Port.TheVariants.{N, E, S, W}
 use Rattle.fabric.specs.declared.parts.Flit.{Flit}
 use Rattle.fabric.specs.Ports.{place_of, looked_at}
-use Rattle.fabric.specs.Places.{place_below, same_or_not}
+use Rattle.fabric.specs.Places.{place_below, looked_at_same, same_or_not}
 use Rattle.switch.specs.Switches.{Handing, Golden, Carried, at}
 use Rattle.switch.specs.Blesses.{standing, Lower, Before, Taken, Leaves, later, bless_turn}
 use Rattle.switch.specs.Ranked.{Best, best_passes, golden_or_plain}
@@ -74,19 +73,6 @@ sinks m n r s (inr (e, inl l)) = omega (arith, place_below r)
 sinks m n r s (inr (e, inr (d, inl l))) = omega (arith, d)
 sinks m n r s (inr (e, inr (d, inr x))) = absurd x.1
 
-looked : ℕ → Port
-looked zero = E
-looked (suc zero) = W
-looked (suc (suc zero)) = N
-looked (suc (suc (suc n))) = S
-
-looked_back : (p : Port) → looked (looked_at p) ≡ p
-unfolding looked
-looked_back N = refl
-looked_back E = refl
-looked_back S = refl
-looked_back W = refl
-
 -- what is taken, and the wish, settle where a flit leaves
 settled : (T : Port → Type 0) (wish : Option Port) (p q : Port) → Leaves T wish p → Leaves T wish q → p ≡ q
 settled T wish p q a b = elim (same_or_not p q) [ inl e ↦ e | inr n ↦ absurd (go n.1 wish refl) ]
@@ -96,7 +82,7 @@ settled T wish p q a b = elim (same_or_not p q) [ inl e ↦ e | inr n ↦ absurd
       | inl l ↦ a.free all (b.first all p l)
       | inr l ↦ elim (cases_lt (looked_at q) (looked_at p)) [
         | inl m ↦ b.free all (a.first all q m)
-        | inr m ↦ ne (sym (looked_back p) ∙ ap looked (let e : looked_at p ≡ looked_at q = omega arith in e) ∙ looked_back q)
+        | inr m ↦ ne (looked_at_same p q (omega arith))
       ]
     ]
 

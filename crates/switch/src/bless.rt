@@ -61,9 +61,10 @@ impl Round {
 fn first_free_of(free: [bool; 4]) -> Port
     ensures { result ≡ first_free (held free) }
 {
-    [Port::E, Port::W, Port::N]
-        .into_iter()
-        .find(|port| free[port.index()])
+    Port::TRIED
+        .iter()
+        .copied()
+        .find(|&port| free[port.index()])
         .unwrap_or(Port::S)
 }
 

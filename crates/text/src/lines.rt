@@ -4,7 +4,7 @@ ghost use Rattle.std.specs.Prelude.{◌+◌, ◌≤◌, length};
 mod methods;
 
 // The bytes that a text has at most.
-const MOST_BYTES: usize = 65536;
+pub const MOST_BYTES: usize = 65536;
 
 // What is left to read of a text, after `read` lines of it.
 #[derive(Drop)]

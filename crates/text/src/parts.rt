@@ -1,4 +1,5 @@
 // What the lines of a run sheet say.
+use fabric::parts::WORDS;
 
 // The cables that a sheet has at most, and the packets.
 pub const MOST_CABLES: usize = 128;
@@ -42,5 +43,5 @@ pub struct Packet {
     pub own: u32,
     pub destination: u32,
     pub count: u32,
-    pub words: [u32; 4],
+    pub words: [u32; WORDS],
 }

@@ -7,11 +7,11 @@ ghost use Rattle.text.specs.Lines.{shape_line, kind_field, kind_line, run_line, 
 use super::fault::Fault;
 use super::field::{Fields, is};
 use super::parts::{Packet, Run, Shape, SwitchKind};
-use fabric::parts::{Cable, Slot};
+use fabric::parts::{Cable, Slot, WORDS};
 
 const MOST_RUN_CYCLES: u32 = 65535;
 
-const MOST_WORDS: u32 = 4;
+const MOST_WORDS: u32 = WORDS as u32;
 
 // The next `count` numbers of a line; zeros stand in the places beyond.
 fn numbers<const N: usize>(fields: &mut Fields, count: usize) -> Result<[u32; N], Fault>
@@ -129,7 +129,7 @@ pub fn packet(mut fields: Fields, last: u32) -> Result<Packet, Fault>
     if cycle < last || count < 1 || count > MOST_WORDS {
         return Err(fields.fault());
     }
-    let words = numbers::<4>(&mut fields, count as usize)?;
+    let words = numbers::<WORDS>(&mut fields, count as usize)?;
     fields.end()?;
     Ok(Packet {
         cycle,

@@ -8,12 +8,12 @@ ghost use Rattle.calls.specs.Records.{arrived as has_arrived, Starts, Accepts, F
 ghost use Rattle.calls.specs.Follow.{slot_of};
 
 use super::super::ticket::Ticket;
-use super::{NODES, PORTS, SLOTS, TICKETS, Tables};
+use super::Tables;
 use batch::Batch;
-use bounds::settings::Settings;
+use bounds::settings::{Settings, TICKETS};
 use clock::draw::shift;
 use clock::epoch::golden;
-use fabric::parts::Flit;
+use fabric::parts::{Flit, NODES, Port, SLOTS, Slot};
 use std::array;
 
 impl Tables {
@@ -111,7 +111,7 @@ impl Tables {
         requires { node < 64 }
         ensures { result ≡ in_slot_order (slot_of self.now.slots node) }
     {
-        array::from_fn(|k| self.slots[PORTS * node + k])
+        Port::ALL.map(|port| self.slots[Slot { node, port }.number()])
     }
 
     // The golden ticket of this cycle.

@@ -3,8 +3,8 @@ ghost use Rattle.std.specs.Prelude.{◌≡◌, ◌≤◌, length, min};
 ghost use Rattle.network.specs.Runs.{over};
 ghost use Rattle.calls.specs.Records.{Packed, all_in, values, Receives, Sends};
 
-use super::{Ticket, WORDS};
-use fabric::parts::Flit;
+use super::Ticket;
+use fabric::parts::{Flit, WORDS};
 
 // Whether every one of the first places holds a word.
 fn all_received(received: &[Option<u32>; WORDS], places: usize) -> bool

@@ -6,12 +6,10 @@ ghost use Rattle.runner.specs.Progress.{Going, Tried, Collected};
 
 use super::Session;
 use fabric::layout::Layout;
+use fabric::parts::WORDS;
 use fabric::refusal::Refusal;
 use switch::switch::Switch;
 use writer::Writer;
-
-// The words of the longest packet.
-const WORDS: usize = 4;
 
 impl<L: Layout, S: Switch> Session<L, S> {
     // A ticket that is complete is collected at its packet's destination, and has its line.

@@ -5,4 +5,4 @@ use Rattle.cabled.proofs.wiring.Wiring.plug.Goals as goal
 pub invariant_of-self-clause-paired : goal.invariant_of-self-clause-paired
 invariant_of-self-clause-paired c =
     let w = c.args.self.now in
-    rw (c.place.ensures.0, c.place-2.ensures.0) (paired_more w.nodes w.fair.1 c.args.cable w.ends (search rules) c.requires w.paired)
+    rw (c.number.ensures.is, c.number-2.ensures.is) (paired_more w.nodes w.fair.1 c.args.cable w.ends (search rules) c.requires w.paired)

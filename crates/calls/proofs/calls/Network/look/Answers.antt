@@ -1,4 +1,5 @@
 use Rattle.std.proofs.Common.{inl, inr, ⊎_elim, arith, rules}
+use Rattle.std.proofs.lemmas.Grind.{common_steps}
 use Rattle.calls.proofs.Promising.{refusing}
 use Rattle.calls.proofs.Looking.{no_look, a_look}
 use Rattle.calls.proofs.calls.Network.look.Goals as goal
@@ -14,4 +15,4 @@ returns-then-node-nodes g c =
 pub returns : goal.returns
 returns g c =
     let s = c.args.self.now in
-    record { promised = refusing (g.met.L.Layout.lawful s.layout) (g.met.S.Switch.lawful s.switch) (a_look _ _ c.args.node c.args.port (search rules) (search rules)) }
+    record { promised = refusing (g.met.L.Layout.lawful s.layout) (g.met.S.Switch.lawful s.switch) (a_look _ _ c.args.node c.args.port _ (grind (arith, common_steps)) (search rules) (search rules)) }

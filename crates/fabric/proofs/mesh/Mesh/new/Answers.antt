@@ -1,5 +1,6 @@
 use Rattle.std.proofs.Common.{arith}
-use Rattle.fabric.specs.Grid.{sides, unfair}
+use Rattle.fabric.specs.Grid.{sides}
+use Rattle.fabric.proofs.Refused.{unfair}
 use Rattle.fabric.proofs.mesh.Mesh.new.Goals as goal
 
 pub returns-in_default : goal.returns-in_default
