@@ -1,5 +1,5 @@
 -- From the verdicts on a sheet's lines to what it is answered.
-use Rattle.std.proofs.Common.{◌≡◌, ℕ, List, sym, refl, ap, ap₂, ◌∙◌, subst, inl, inr}
+use Rattle.std.proofs.Common.{◌≡◌, ℕ, ◌+◌, ◌≤◌, List, sym, refl, ap, ap₂, ◌∙◌, subst, inl, inr}
 use Rattle.fabric.specs.Layouts.{Plan, Lawful}
 use Rattle.fabric.specs.Verdicts.{Verdict, granting, value_or}
 use Rattle.fabric.specs.Verdicts.Verdict.{granted, refused}
