@@ -1,5 +1,5 @@
 // What a cycle tells of a flit.
-ghost use Rattle.std.specs.Prelude.{◌≡◌, Some};
+ghost use Rattle.std.specs.Prelude.{Some};
 ghost use Rattle.network.specs.Kinds.{event_word};
 
 use std::fmt;
@@ -13,22 +13,14 @@ pub enum Kind {
     Out,
 }
 
-impl Kind {
-    pub fn word(self) -> &'static str
-        ensures { result.now ≡ event_word self }
-    {
-        match self {
-            Kind::In => "in",
-            Kind::Out => "out",
-        }
-    }
-}
-
 impl fmt::Display for Kind {
     ghost output = { λ k. Some (event_word k) };
 
     fn fmt<W: fmt::Write>(&self, f: &mut fmt::Formatter<W>) -> fmt::Result {
-        f.write_str(self.word())
+        match *self {
+            Kind::In => f.write_str("in"),
+            Kind::Out => f.write_str("out"),
+        }
     }
 }
 

@@ -2,6 +2,7 @@
 ghost use Rattle.std.specs.Prelude.{◌≡◌, ◌+◌, ◌-◌, ◌*◌, ◌≤◌, [], ◌∷◌, Ok};
 ghost use Rattle.line.specs.Lines.{holds, SameLender as SameLine};
 ghost use Rattle.writer.specs.Listings.{SameLender};
+ghost use Rattle.network.specs.Kinds.{event_word};
 ghost use Rattle.runner.specs.Listing.{enters, leaves, mean_of};
 ghost use Rattle.runner.specs.Tallies.{Counts, Tellable, Told};
 
@@ -10,6 +11,16 @@ use fabric::refusal::Refusal;
 use line::Line;
 use network::event::{Event, Kind};
 use writer::Writer;
+
+// Beside Kind's Display: the words of a listing are fixed byte strings.
+fn word(kind: Kind) -> &'static [u8]
+    ensures { result.now ≡ event_word kind }
+{
+    match kind {
+        Kind::In => b"in",
+        Kind::Out => b"out",
+    }
+}
 
 impl Tally {
     fn count(&mut self, event: Event)
@@ -34,7 +45,7 @@ impl Tally {
         self.count(event);
         writer.event(
             event.cycle,
-            event.kind.word().as_bytes(),
+            word(event.kind),
             u32::from(event.ticket),
             u32::from(event.number),
             u32::from(event.node),
