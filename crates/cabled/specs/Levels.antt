@@ -27,11 +27,6 @@ Way next t (suc k) u = (p : Port) × Way next t k (next u p)
 abbrev pub Nearest : (ℕ → Port → ℕ) → ℕ → ℕ → ℕ → Type 0
 Nearest next t u d = Way next t d u × ((k : ℕ) → Way next t k u → d ≤ k)
 
--- what l rounds find of node u: the fewest steps to t where these are at most l, else nothing
-abbrev pub Found : (ℕ → Port → ℕ) → ℕ → ℕ → ℕ → Option ℕ → Type 0
-Found next t l u (Some d) = (d ≤ l) × Nearest next t u d
-Found next t l u None = (k : ℕ) → Way next t k u → l < k
-
 abbrev pub NoWay : (ℕ → Port → ℕ) → ℕ → ℕ → Type 0
 NoWay next t u = (k : ℕ) → Way next t k u → ⊥
 

@@ -5,7 +5,7 @@ use Rattle.fabric.specs.declared.parts.Flit.{Flit}
 use Rattle.fabric.specs.Ports.{port_of}
 use Rattle.fabric.specs.Verdicts.{Verdict}
 use Rattle.fabric.specs.Verdicts.Verdict.{granted, refused}
-use Rattle.fabric.specs.Places.{place_of_port}
+use Rattle.fabric.proofs.Numbers.{place_of_port}
 use Rattle.network.specs.Cycle.{Fabric, State}
 use Rattle.network.specs.Runs.{look_verdict}
 use Rattle.network.specs.Runs.Call.{look}

@@ -21,7 +21,8 @@ use Rattle.laying.specs.Reports.{Report, by_layer, then}
 use Rattle.laying.specs.Reports.Report.{answers, faults}
 use Rattle.laying.specs.Layings.{Laid, Judged, settings_of, settled, layout_line}
 use Rattle.fabric.specs.Ports.{looked_at}
-use Rattle.fabric.specs.Places.{slot_cases, looked_at_same}
+use Rattle.fabric.specs.Places.{looked_at_same}
+use Rattle.fabric.proofs.Numbers.{slot_cases}
 use Rattle.fabric.proofs.Refused.{unfit, fair}
 
 -- two plans of one list of cables: distances are fewest cables, and the rest follows
