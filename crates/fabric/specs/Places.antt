@@ -1,11 +1,10 @@
 -- No two ports have the same place in an order, and what the first port that passes a test says of the others.
-use Rattle.std.specs.Prelude.{◌≡◌, ℕ, zero, suc, ◌+◌, ◌*◌, ◌<◌, Bool, true, false, cond, ◌⊎◌, Some, None, Option, ◌≢◌, refl}
+use Rattle.std.specs.Prelude.{◌≡◌, ℕ, zero, suc, ◌<◌, Bool, true, false, cond, ◌⊎◌, Some, None, Option, ◌≢◌, refl}
 use Rattle.std.proofs.Common.{sym, ◌∙◌, ap, inl, inr, ⊎_elim, arith, eqb-true}
 use Rattle.std.proofs.lemmas.Bool.{cases_eq, ne_eqb}
 use Rattle.fabric.specs.declared.parts.Port.{Port}
 use Rattle.fabric.specs.declared.parts.Port.TheVariants.{N, E, S, W}
-use Rattle.fabric.specs.declared.parts.Slot.{Slot}
-use Rattle.fabric.specs.Ports.{place_of, port_of, slot_number, same, looked_at, first}
+use Rattle.fabric.specs.Ports.{place_of, port_of, same, looked_at, first}
 
 pub place_below : (p : Port) → place_of p < 4
 place_below N = omega arith
