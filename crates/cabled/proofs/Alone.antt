@@ -6,7 +6,7 @@ use Rattle.fabric.specs.declared.parts.Port.{Port}
 use Rattle.fabric.specs.Layouts.{both}
 use Rattle.fabric.specs.declared.parts.Slot.{Slot}
 use Rattle.fabric.specs.Ports.{slot_number}
-use Rattle.fabric.specs.Places.{slot_below}
+use Rattle.fabric.proofs.Numbers.{slot_below}
 use Rattle.cabled.specs.Cables.{Walk, Means, lone}
 use Rattle.cabled.specs.Cables.Walk.{stay}
 use Rattle.cabled.specs.Tables.{far_at, distance_at, wish_at, cabled_plan}

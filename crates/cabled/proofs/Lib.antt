@@ -6,3 +6,4 @@ mod Plugs
 mod Walks
 mod Ways
 mod Greatest
+mod Measuring

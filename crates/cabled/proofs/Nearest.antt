@@ -8,7 +8,12 @@ use Rattle.std.specs.Option.{option_or}
 use Rattle.fabric.specs.declared.parts.Port.{Port}
 use Rattle.fabric.specs.declared.parts.Port.TheVariants.{N, E, S, W}
 use Rattle.fabric.proofs.Pigeons.{filled}
-use Rattle.cabled.specs.Levels.{any, at, again, Way, Found, Level}
+use Rattle.cabled.specs.Levels.{any, at, again, Way, Nearest, Level}
+
+-- what l rounds find of node u: the fewest steps to t where these are at most l, else nothing
+abbrev pub Found : (ℕ → Port → ℕ) → ℕ → ℕ → ℕ → Option ℕ → Type 0
+Found next t l u (Some d) = (d ≤ l) × Nearest next t u d
+Found next t l u None = (k : ℕ) → Way next t k u → l < k
 
 any_some : (f : Port → Bool) → any f ≡ true → (p : Port) × (f p ≡ true)
 any_some f e = let a = Any-from_list_any f (N ∷ E ∷ S ∷ W ∷ []) e in (a.1, a.4)

@@ -7,7 +7,7 @@ use Rattle.fabric.specs.declared.parts.Cable.{Cable}
 use Rattle.fabric.specs.declared.parts.Port.{Port}
 use Rattle.fabric.specs.declared.parts.Slot.{Slot}
 use Rattle.fabric.specs.Ports.{slot_number}
-use Rattle.fabric.specs.Places.{slot_below, slot_same, slot_cases}
+use Rattle.fabric.proofs.Numbers.{slot_below, slot_same, slot_cases}
 use Rattle.cabled.specs.Cables.{cable_at, Runs, Joined, Good}
 use Rattle.cabled.specs.Tables.{end_at, far_at, next_at, Paired, Wired, Free, Fits, plugged}
 

@@ -1,12 +1,14 @@
 -- What the tables of a cabled layout mean.
-use Rattle.std.specs.Prelude.{◌≡◌, ℕ, ◌+◌, ◌*◌, ◌<◌, ◌≤◌, Bool, true, cond, List, [], is_some, Some, None, Option, ◌==◌, ◌≢◌, nat_lt, slice_index, slice_index_or, slice_set}
+use Rattle.std.specs.Prelude.{◌≡◌, ℕ, ◌+◌, ◌<◌, ◌≤◌, Bool, true, cond, List, [], length, is_some, Some, None, Option, ◌==◌, ◌≢◌, nat_lt, slice_index, slice_index_or, slice_set}
 use Rattle.std.specs.Option.{unwrap_or}
 use Rattle.fabric.specs.declared.parts.Cable.{Cable}
 use Rattle.fabric.specs.declared.parts.Port.{Port}
 use Rattle.fabric.specs.declared.parts.Slot.{Slot}
+use Rattle.fabric.specs.declared.refusal.Refusal.{Refusal}
+use Rattle.fabric.specs.declared.refusal.Refusal.TheVariants.{Cable as bad_cable}
 use Rattle.fabric.specs.Layouts.{Plan, both}
 use Rattle.fabric.specs.Ports.{slot_number, first}
-use Rattle.cabled.specs.Cables.{AllGood, Joined}
+use Rattle.cabled.specs.Cables.{Good, AllGood, Joined}
 use Rattle.cabled.specs.Levels.{Steps}
 
 -- a table has a place for each slot: the other end of the cable in a port, if there is one
@@ -75,3 +77,16 @@ pub record Wired (k n : ℕ) (cs : List Cable) (ts : List (Option Slot)) : Type 
   pub good : AllGood k cs n
   pub has : (s t : Slot) → Joined cs n s t → end_at ts s ≡ Some t
   pub only : (s t : Slot) → s.node < 64 → end_at ts s ≡ Some t → Joined cs n s t
+
+-- k nodes with the first n of the cables: so many nodes there are, and so the table stands
+pub record Plugged (k n : ℕ) (cs : List Cable) (nodes : ℕ) (ts : List (Option Slot)) : Type 0 where
+  pub same : nodes ≡ k
+  pub wired : Wired nodes n cs ts
+
+-- the refusal names the first cable that is not good
+pub record NamesBad (k : ℕ) (cs : List Cable) (e : Refusal) : Type 0 where
+  pub place : ℕ
+  pub named : e ≡ bad_cable place
+  pub there : place < length cs
+  pub before : AllGood k cs place
+  pub bad : Good k cs place → ⊥

@@ -2,7 +2,7 @@
 ghost use Rattle.std.specs.Prelude.{◌≡◌, ℕ, ◌<◌, ◌≤◌, Some, None, Ok, Err, max, slice_index, slice_index_or};
 ghost use Rattle.std.specs.List.{reduce};
 ghost use Rattle.std.specs.Option.{unwrap_or};
-ghost use Rattle.cabled.specs.Levels.{any, at, again, NoWay, Steps, Level};
+ghost use Rattle.cabled.specs.Levels.{any, at, again, AllSteps, NamesUnreached, Level};
 ghost use Rattle.cabled.specs.Tables.{next_at, Measured};
 
 use super::wiring::Wiring;
@@ -87,7 +87,7 @@ impl Wiring {
     // The fewest steps from each node to one, unless a node has no way to it.
     fn steps(&self, to: usize) -> Result<[u8; NODES], Refusal>
         requires { to < self.now.nodes }
-        ensures { elim result [ Ok row ↦ (u : ℕ) → u < self.now.nodes → Steps (next_at self.now.ends) to u (slice_index row u) | Err e ↦ (u : ℕ) × (e ≡ Refusal.Unreached u) × (u < self.now.nodes) × NoWay (next_at self.now.ends) to u ] }
+        ensures { elim result [ Ok row ↦ AllSteps (next_at self.now.ends) to self.now.nodes row | Err e ↦ NamesUnreached (next_at self.now.ends) to self.now.nodes e ] }
     {
         let levels = self.levels(to);
         let mut row = [0; NODES];
@@ -99,7 +99,7 @@ impl Wiring {
 
     // The fewest steps between all nodes, unless a node has no way to node 0.
     pub(crate) fn measure(&self) -> Result<Spans, Refusal>
-        ensures { elim result [ Ok s ↦ Measured self.now.nodes self.now.ends s.distances s.reach | Err e ↦ (u : ℕ) × (e ≡ Refusal.Unreached u) × (u < self.now.nodes) × NoWay (next_at self.now.ends) 0 u ] }
+        ensures { elim result [ Ok s ↦ Measured self.now.nodes self.now.ends s.distances s.reach | Err e ↦ NamesUnreached (next_at self.now.ends) 0 self.now.nodes e ] }
     {
         let mut distances = [[0; NODES]; NODES];
         let mut reach = 0;

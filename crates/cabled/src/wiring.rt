@@ -1,7 +1,7 @@
 // Which ports the cables join.
 ghost use Rattle.std.specs.Prelude.{◌≡◌, ℕ, None, ◌<◌, Ok, Err, length, replicate, Decides};
-ghost use Rattle.cabled.specs.Cables.{Fair, Good, AllGood};
-ghost use Rattle.cabled.specs.Tables.{far_at, Free, Fits, plugged, Paired, Wired};
+ghost use Rattle.cabled.specs.Cables.{Fair};
+ghost use Rattle.cabled.specs.Tables.{far_at, Free, Fits, plugged, Paired, Plugged, NamesBad};
 
 use fabric::parts::{Cable, SLOTS, Slot};
 use fabric::refusal::Refusal;
@@ -31,7 +31,7 @@ impl Wiring {
     // Nodes with all the cables, unless one does not fit.
     pub(crate) fn new(nodes: usize, cables: &[Cable]) -> Result<Wiring, Refusal>
         requires { Fair nodes }
-        ensures { elim result [ Ok w ↦ (w.nodes ≡ nodes) × Wired w.nodes (length cables.now) cables.now w.ends | Err e ↦ (i : ℕ) × (e ≡ Refusal.Cable i) × (i < length cables.now) × AllGood nodes cables.now i × (Good nodes cables.now i → ⊥) ] }
+        ensures { elim result [ Ok w ↦ Plugged nodes (length cables.now) cables.now w.nodes w.ends | Err e ↦ NamesBad nodes cables.now e ] }
     {
         let mut wiring = Wiring::bare(nodes);
         for (i, &cable) in cables.iter().enumerate() {

@@ -1,11 +1,10 @@
 -- What a look answers.
-use Rattle.std.proofs.Common.{◌≡◌, ℕ, ◌+◌, ◌*◌, ◌<◌, ◌≤◌, ◌⊎◌, [], Option, sym, refl, ap, ◌∙◌, inl, inr}
+use Rattle.std.proofs.Common.{◌≡◌, ℕ, ◌<◌, ◌≤◌, ◌⊎◌, [], Option, sym, refl, ap, ◌∙◌, inl, inr}
 use Rattle.std.proofs.lemmas.Bool.{le-leb, lt-leb, or_left, or_right, or_from, cond-true, cond-false}
 use Rattle.fabric.specs.declared.parts.Flit.{Flit}
 use Rattle.fabric.specs.Ports.{port_of}
 use Rattle.fabric.specs.Verdicts.{Verdict}
 use Rattle.fabric.specs.Verdicts.Verdict.{granted, refused}
-use Rattle.fabric.specs.Places.{place_of_port}
 use Rattle.network.specs.Cycle.{Fabric, State}
 use Rattle.network.specs.Runs.{look_verdict}
 use Rattle.network.specs.Runs.Call.{look}

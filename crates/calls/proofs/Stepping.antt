@@ -10,7 +10,8 @@ use Rattle.fabric.specs.declared.parts.Slot.{Slot}
 use Rattle.fabric.specs.declared.parts.Flit.{Flit}
 use Rattle.fabric.specs.Layouts.{Plan, Lawful}
 use Rattle.fabric.specs.Ports.{place_of, port_of}
-use Rattle.fabric.specs.Places.{place_of_port, place_below, port_of_place, slot_same}
+use Rattle.fabric.specs.Places.{place_below, port_of_place}
+use Rattle.fabric.proofs.Numbers.{place_of_port, slot_same}
 use Rattle.fabric.proofs.Following.{far_exists}
 use Rattle.switch.specs.Switches.{at}
 use Rattle.network.specs.Computed.{due, better, best}

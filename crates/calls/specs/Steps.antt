@@ -1,5 +1,5 @@
 -- What the steps of a node's work do to four places, and to the slots.
-use Rattle.std.specs.Prelude.{◌≡◌, ℕ, ◌+◌, ◌*◌, ◌<◌, ◌≤◌, List, Bool, ◌&&◌, None, Option, ◌≢◌, slice_index_or}
+use Rattle.std.specs.Prelude.{◌≡◌, ℕ, ◌<◌, ◌≤◌, List, Bool, ◌&&◌, None, Option, ◌≢◌, slice_index_or}
 use Rattle.fabric.specs.declared.parts.Port.{Port}
 use Rattle.std.specs.Option.{is_none}
 use Rattle.fabric.specs.declared.parts.Port.TheVariants.{N, E, S, W}

@@ -1,3 +1,4 @@
 pub mod Following
 pub mod Pigeons
 pub mod Refused
+pub mod Numbers

@@ -1,11 +1,10 @@
--- No two ports have the same place in an order, and no two slots the same number.
-use Rattle.std.specs.Prelude.{◌≡◌, ℕ, zero, suc, ◌+◌, ◌*◌, ◌<◌, Bool, true, false, cond, ◌⊎◌, Some, None, Option, ◌≢◌, refl}
+-- No two ports have the same place in an order, and what the first port that passes a test says of the others.
+use Rattle.std.specs.Prelude.{◌≡◌, ℕ, zero, suc, ◌<◌, Bool, true, false, cond, ◌⊎◌, Some, None, Option, ◌≢◌, refl}
 use Rattle.std.proofs.Common.{sym, ◌∙◌, ap, inl, inr, ⊎_elim, arith, eqb-true}
 use Rattle.std.proofs.lemmas.Bool.{cases_eq, ne_eqb}
 use Rattle.fabric.specs.declared.parts.Port.{Port}
 use Rattle.fabric.specs.declared.parts.Port.TheVariants.{N, E, S, W}
-use Rattle.fabric.specs.declared.parts.Slot.{Slot}
-use Rattle.fabric.specs.Ports.{place_of, port_of, slot_number, same, looked_at, first}
+use Rattle.fabric.specs.Ports.{place_of, port_of, same, looked_at, first}
 
 pub place_below : (p : Port) → place_of p < 4
 place_below N = omega arith
@@ -18,13 +17,6 @@ port_of_place N = refl
 port_of_place E = refl
 port_of_place S = refl
 port_of_place W = refl
-
-pub place_of_port : (k : ℕ) → k < 4 → place_of (port_of k) ≡ k
-place_of_port zero l = refl
-place_of_port (suc zero) l = refl
-place_of_port (suc (suc zero)) l = refl
-place_of_port (suc (suc (suc zero))) l = refl
-place_of_port (suc (suc (suc (suc k)))) l = absurd (omega arith)
 
 pub place_same : (p q : Port) → place_of p ≡ place_of q → p ≡ q
 place_same p q e = sym (port_of_place p) ∙ ap port_of e ∙ port_of_place q
@@ -60,20 +52,6 @@ port_cases p q = ⊎_elim (λ e. inl (place_same p q e)) (λ h. inr (λ e. h (ap
 
 pub same_or_not : (p q : Port) → (p ≡ q) ⊎ ((same p q ≡ false) × (p ≢ q))
 same_or_not p q = ⊎_elim inl (λ h. inr (ne_eqb (place_of p) (place_of q) (λ e. h (place_same p q e)), h)) (port_cases p q)
-
-pub slot_below : (s : Slot) → s.node < 64 → slot_number s < 256
-slot_below s l = omega (arith, place_below s.port)
-
-pub slot_same : (s t : Slot) → slot_number s ≡ slot_number t → s ≡ t
-slot_same s t e =
-    let a = place_below s.port in
-    let b = place_below t.port in
-    let n : s.node ≡ t.node = omega arith in
-    let p : s.port ≡ t.port = place_same s.port t.port (omega arith) in
-    λ i. record { node = n i; port = p i }
-
-pub slot_cases : (s t : Slot) → (s ≡ t) ⊎ (s ≢ t)
-slot_cases s t = ⊎_elim (λ e. inl (slot_same s t e)) (λ h. inr (λ e. h (ap slot_number e))) (cases_eq (slot_number s) (slot_number t))
 
 -- what the first port that passes a test says of the ports
 abbrev pub Pick : (Port → Bool) → Option Port → Type 0

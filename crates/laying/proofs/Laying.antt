@@ -4,7 +4,7 @@ use Rattle.fabric.specs.declared.parts.Cable.{Cable}
 use Rattle.fabric.specs.Layouts.{Plan}
 use Rattle.fabric.specs.Verdicts.{Verdict}
 use Rattle.fabric.specs.Verdicts.Verdict.{granted, refused}
-use Rattle.fabric.specs.Places.{slot_below, slot_same}
+use Rattle.fabric.proofs.Numbers.{slot_below, slot_same}
 use Rattle.fabric.proofs.Pigeons.{apiece}
 use Rattle.cabled.specs.Cables.{Cabling, lone, cable_at, Fair, AllGood}
 use Rattle.cabled.specs.Cables.Cabling.{unfair, bad, unreached, cabled}

@@ -1,12 +1,11 @@
 -- The lines of a layout and its settings have one report, and a plan that it answers is lawful.
-use Rattle.std.proofs.Common.{◌≡◌, ℕ, ◌*◌, ◌<◌, ◌≤◌, Bool, true, false, cond, ◌||◌, eqb, ltb, ◌⊎◌, List, [], ◌∷◌, length, Some, None, Option, sym, refl, ap, ◌∙◌, subst, inl, inr, ⊎_elim, arith}
-use Rattle.std.proofs.lemmas.Bool.{cases_eq, cases_lt, cond_both}
-use Rattle.std.proofs.lemmas.Bool.Decides.{nat_tests}
+use Rattle.std.proofs.Common.{◌≡◌, ℕ, ◌<◌, ◌≤◌, ◌⊎◌, List, [], ◌∷◌, length, Some, None, Option, sym, refl, ap, ◌∙◌, subst, inl, inr, ⊎_elim, arith}
+use Rattle.std.proofs.lemmas.Bool.{cases_lt, cond_both}
 use Rattle.fabric.specs.declared.parts.Cable.{Cable}
 use Rattle.fabric.specs.declared.parts.Port.{Port}
 use Rattle.fabric.specs.declared.parts.Slot.{Slot}
 use Rattle.fabric.specs.Layouts.{Plan, Lawful, LeadsNearer, Missing}
-use Rattle.fabric.specs.Meshes.{Fair, mesh_plan, mesh_verdict}
+use Rattle.fabric.specs.Meshes.{mesh_plan, mesh_verdict}
 use Rattle.fabric.specs.Grid.{mesh_lawful}
 use Rattle.fabric.specs.Verdicts.{Verdict, granting}
 use Rattle.fabric.specs.Verdicts.Verdict.{granted, refused}
@@ -21,7 +20,8 @@ use Rattle.laying.specs.Reports.{Report, by_layer, then}
 use Rattle.laying.specs.Reports.Report.{answers, faults}
 use Rattle.laying.specs.Layings.{Laid, Judged, settings_of, settled, layout_line}
 use Rattle.fabric.specs.Ports.{looked_at}
-use Rattle.fabric.specs.Places.{slot_cases, looked_at_same}
+use Rattle.fabric.specs.Places.{looked_at_same}
+use Rattle.fabric.proofs.Numbers.{slot_cases}
 use Rattle.fabric.proofs.Refused.{unfit, fair}
 
 -- two plans of one list of cables: distances are fewest cables, and the rest follows

@@ -13,7 +13,7 @@ pub returns-in_err-wiring : goal.returns-in_err-wiring
 returns-in_err-wiring c =
     let p = err_from_is_err_and c.from_residual.result c.from_residual.ensures.1 in
     let h = c.in_err-wiring.ensures in
-    rw (p.1, p.2, h.1) (bad (omega arith, omega arith) h.0 h.2 h.3 h.4)
+    rw (p.1, p.2, h.named) (bad (omega arith, omega arith) h.place h.there h.before h.bad)
 
 pub returns-in_err-spans : goal.returns-in_err-spans
 returns-in_err-spans c =
@@ -21,8 +21,8 @@ returns-in_err-spans c =
     let p = err_from_is_err_and c.from_residual-in_err-spans.result c.from_residual-in_err-spans.ensures.1 in
     let h = c.in_ok-wiring.ensures in
     let u = c.in_err-spans.ensures in
-    rw (p.1, p.2, u.1, ← h.0)
-    (unreached x.fair h.1.good u.0 u.2 (λ j v. let r = reverse v in u.3 r.0 (way x.nodes x.fair.1 c.args.cables.now x.ends h.1 r.1)))
+    rw (p.1, p.2, u.named, ← h.same)
+    (unreached x.fair h.wired.good u.node u.there (λ j v. let r = reverse v in u.no_way r.0 (way x.nodes x.fair.1 c.args.cables.now x.ends h.wired r.1)))
 
 pub invariant_of-self : goal.invariant_of-self
 invariant_of-self c =
@@ -31,7 +31,7 @@ invariant_of-self c =
     let measured = c.in_ok-spans.ensures in
     record {
       within = measured.within;
-      nearing = nearing x.nodes x.fair.1 c.args.cables.now x.ends s.distances s.reach c.in_ok-wiring.ensures.1 x.paired measured;
+      nearing = nearing x.nodes x.fair.1 c.args.cables.now x.ends s.distances s.reach c.in_ok-wiring.ensures.wired x.paired measured;
     }
 
 pub returns : goal.returns
@@ -42,7 +42,7 @@ returns c =
     let h = c.in_ok-wiring.ensures in
     let s = c.in_ok-spans.spans in
     let measured = c.in_ok-spans.ensures in
-    rw (← h.0)
-    (cabled x.fair h.1.good
-    (λ n l cut. let r = reverse (walk k x.fair.1 cs x.ends h.1 0 (distance_at s.distances n 0) n l (measured.exact n 0 (l, x.fair.0)).1.0).2 in cut r.0 r.1)
-    (means k x.fair.1 cs x.ends s.distances s.reach h.1 x.paired measured))
+    rw (← h.same)
+    (cabled x.fair h.wired.good
+    (λ n l cut. let r = reverse (walk k x.fair.1 cs x.ends h.wired 0 (distance_at s.distances n 0) n l (measured.exact n 0 (l, x.fair.0)).1.0).2 in cut r.0 r.1)
+    (means k x.fair.1 cs x.ends s.distances s.reach h.wired x.paired measured))

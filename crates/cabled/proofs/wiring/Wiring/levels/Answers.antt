@@ -1,7 +1,6 @@
 use Rattle.std.proofs.Common.{◌≡◌, get_or, None, subst, arith}
-use Rattle.cabled.specs.Levels.{Found}
 use Rattle.cabled.specs.Tables.{next_at}
-use Rattle.cabled.proofs.Nearest.{start, round, levelled}
+use Rattle.cabled.proofs.Nearest.{Found, start, round, levelled}
 use Rattle.cabled.proofs.Plugs.{inside}
 use Rattle.cabled.proofs.wiring.Wiring.levels.Goals as goal
 

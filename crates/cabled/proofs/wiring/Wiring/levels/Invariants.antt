@@ -1,5 +1,5 @@
 use Rattle.std.proofs.Common.{ℕ, ◌<◌, get_or, None}
-use Rattle.cabled.specs.Levels.{Found}
+use Rattle.cabled.proofs.Nearest.{Found}
 use Rattle.cabled.specs.Tables.{next_at}
 use Rattle.cabled.proofs.wiring.Wiring.levels.Given as goal
 

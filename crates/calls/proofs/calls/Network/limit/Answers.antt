@@ -1,4 +1,4 @@
-use Rattle.std.proofs.Common.{ℕ, ◌+◌, ◌*◌, ◌++◌, sym, subst}
+use Rattle.std.proofs.Common.{ℕ, ◌++◌, sym, subst}
 use Rattle.network.proofs.Kept.{kept}
 use Rattle.network.specs.Promises.{InTime}
 use Rattle.calls.specs.Networks.{fabric_of}
