@@ -1,7 +1,7 @@
 // Lays out what a sheet names: its layout and its settings, or the fault at the line that is refused.
 #![tactic(auto)]
 
-ghost use Rattle.std.specs.Prelude.{◌≡◌, ℕ, ◌+◌, ◌≤◌, [], slice_index, IfErr};
+ghost use Rattle.std.specs.Prelude.{◌≡◌, ◌≤◌, [], slice_index, IfErr};
 ghost use Rattle.fabric.specs.Refusals.{numbered};
 ghost use Rattle.cabled.specs.Plans.{plan_of};
 ghost use Rattle.text.specs.declared.fault.Layer.TheVariants.{Network};
