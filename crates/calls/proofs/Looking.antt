@@ -1,7 +1,8 @@
 -- What a look answers.
-use Rattle.std.proofs.Common.{◌≡◌, ℕ, ◌<◌, ◌≤◌, ◌⊎◌, [], Option, sym, refl, ap, ◌∙◌, inl, inr}
+use Rattle.std.proofs.Common.{◌≡◌, ℕ, ◌<◌, ◌≤◌, ◌⊎◌, [], ◌∷◌, get_or, arith, Option, sym, refl, ap, ◌∙◌, inl, inr}
 use Rattle.std.proofs.lemmas.Bool.{le-leb, lt-leb, or_left, or_right, or_from, cond-true, cond-false}
 use Rattle.fabric.specs.declared.parts.Flit.{Flit}
+use Rattle.fabric.specs.declared.parts.Port.TheVariants.{N, E, S, W}
 use Rattle.fabric.specs.Ports.{port_of}
 use Rattle.fabric.specs.Verdicts.{Verdict}
 use Rattle.fabric.specs.Verdicts.Verdict.{granted, refused}
@@ -12,6 +13,13 @@ use Rattle.network.specs.Runs.Outcome.{looking}
 use Rattle.calls.specs.declared.tables.Tables.{Tables}
 use Rattle.calls.specs.Follow.{Shows, slot_of}
 use Rattle.calls.proofs.Promising.{Works, nothing_done}
+
+pub port_at : (k : ℕ) → k < 4 → get_or (N ∷ E ∷ S ∷ W ∷ []) k N ≡ port_of k
+port_at ℕ.zero l = refl
+port_at (ℕ.suc ℕ.zero) l = refl
+port_at (ℕ.suc (ℕ.suc ℕ.zero)) l = refl
+port_at (ℕ.suc (ℕ.suc (ℕ.suc ℕ.zero))) l = refl
+port_at (ℕ.suc (ℕ.suc (ℕ.suc (ℕ.suc k)))) l = absurd (omega arith)
 
 module _ (F : Fabric) (i : Tables) (n k : ℕ) where
   looked : (v : Verdict _) → ((s : State) → Shows F i s → v ≡ look_verdict F i.settings s n k) → Works F i i (look n k) (looking v)

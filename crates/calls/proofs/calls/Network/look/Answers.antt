@@ -1,7 +1,7 @@
-use Rattle.std.proofs.Common.{inl, inr, ⊎_elim, arith, rules}
-use Rattle.std.proofs.lemmas.Grind.{common_steps}
+use Rattle.std.proofs.Common.{get_or, None, ap, ◌∙◌, inl, inr, ⊎_elim, arith, rules}
+use Rattle.calls.specs.Follow.{slot_of}
 use Rattle.calls.proofs.Promising.{refusing}
-use Rattle.calls.proofs.Looking.{no_look, a_look}
+use Rattle.calls.proofs.Looking.{no_look, a_look, port_at}
 use Rattle.calls.proofs.calls.Network.look.Goals as goal
 
 pub returns-then-node-nodes : goal.returns-then-node-nodes
@@ -15,4 +15,4 @@ returns-then-node-nodes g c =
 pub returns : goal.returns
 returns g c =
     let s = c.args.self.now in
-    record { promised = refusing (g.met.L.Layout.lawful s.layout) (g.met.S.Switch.lawful s.switch) (a_look _ _ c.args.node c.args.port _ (grind (arith, common_steps)) (search rules) (search rules)) }
+    record { promised = refusing (g.met.L.Layout.lawful s.layout) (g.met.S.Switch.lawful s.switch) (a_look _ _ c.args.node c.args.port _ (ap (λ j. get_or s.inner.slots j None) c.number.ensures.is ∙ ap (slot_of s.inner.slots c.args.node) (port_at c.args.port (search rules))) (search rules) (search rules)) }
