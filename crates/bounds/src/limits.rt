@@ -35,7 +35,7 @@ impl Limits {
             reach,
             tickets,
             epoch: settings.words * (reach + 1),
-            latest: settings.latest(layout),
+            latest: (tickets + 1) * settings.epoch,
         })
     }
 }

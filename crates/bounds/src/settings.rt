@@ -1,8 +1,7 @@
 // What set-up fixes for a network.
-ghost use Rattle.std.specs.Prelude.{◌≡◌, ◌≤◌};
+ghost use Rattle.std.specs.Prelude.{◌≡◌};
 ghost use Rattle.fabric.specs.Refusals.{shown};
 ghost use Rattle.bounds.specs.SetUp.{set_up_verdict};
-ghost use Rattle.bounds.specs.Lateness.{latest};
 
 use fabric::layout::Layout;
 use fabric::parts::{NODES, WORDS};
@@ -52,13 +51,5 @@ impl Settings {
             return Err(Refusal::Seed);
         }
         Ok(())
-    }
-
-    // Within so many cycles of being injected a flit is ejected. The settings are judged already.
-    pub fn latest<L: Layout>(&self, layout: &L) -> usize
-        requires { (self.now.tickets ≤ 8) × (self.now.epoch ≤ 4096) }
-        ensures { result ≡ latest (L.plan layout.now) self.now }
-    {
-        (layout.nodes() * self.tickets + 1) * self.epoch
     }
 }

@@ -72,7 +72,9 @@ impl<L: Layout, S: Switch> Network<L, S> {
         ensures exact { result ≡ latest (L.plan self.now.layout) self.now.inner.settings }
         ensures promised { StaysInTime (fabric_of L.plan S.turn self.now) self.now.inner result }
     {
-        self.inner.settings.latest(&self.layout)
+        // The number that `Limits` answers, which judges settings first: those of a network are judged already.
+        let Settings { tickets, epoch, .. } = self.inner.settings;
+        (self.layout.nodes() * tickets + 1) * epoch
     }
 
     // Hands a packet to a node for sending, under one of its own tickets, which are numbered from 0.

@@ -1,5 +1,5 @@
 // Ports, slots, cables and flits.
-ghost use Rattle.std.specs.Prelude.{◌≡◌, ◌<◌, Some};
+ghost use Rattle.std.specs.Prelude.{◌≡◌, ◌<◌, Some, ◌%◌, ◌^◌};
 ghost use Rattle.fabric.specs.Ports.{place_of, letter, slot_number};
 
 use std::fmt;
@@ -62,13 +62,12 @@ pub struct Slot {
 }
 
 impl Slot {
-    // The slot's number among those of all nodes, four of each in slot order.
+    // The slot's number among those of all nodes, four of each in slot order. It wraps round far beyond the nodes of any layout.
     pub fn number(self) -> usize
-        requires { self.node < 64 }
-        ensures is { result ≡ slot_number self }
-        ensures below { result < 256 }
+        ensures exact { result ≡ slot_number self % 2 ^ 64 }
+        ensures here { self.node < 64 → (result ≡ slot_number self) × (result < 256) }
     {
-        PORTS * self.node + self.port.index()
+        self.node.wrapping_mul(PORTS).wrapping_add(self.port.index())
     }
 }
 

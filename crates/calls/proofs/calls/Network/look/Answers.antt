@@ -15,4 +15,4 @@ returns-then-node-nodes g c =
 pub returns : goal.returns
 returns g c =
     let s = c.args.self.now in
-    record { promised = refusing (g.met.L.Layout.lawful s.layout) (g.met.S.Switch.lawful s.switch) (a_look _ _ c.args.node c.args.port _ (ap (λ j. get_or s.inner.slots j None) c.number.ensures.is ∙ ap (slot_of s.inner.slots c.args.node) (port_at c.args.port (search rules))) (search rules) (search rules)) }
+    record { promised = refusing (g.met.L.Layout.lawful s.layout) (g.met.S.Switch.lawful s.switch) (a_look _ _ c.args.node c.args.port _ (ap (λ j. get_or s.inner.slots j None) (c.number.ensures.here (search rules)).0 ∙ ap (slot_of s.inner.slots c.args.node) (port_at c.args.port (search rules))) (search rules) (search rules)) }
