@@ -5,7 +5,7 @@ use Rattle.std.specs.Option.{is_none}
 use Rattle.fabric.specs.declared.parts.Port.TheVariants.{N, E, S, W}
 use Rattle.fabric.specs.declared.parts.Flit.{Flit}
 use Rattle.fabric.specs.Layouts.{Plan}
-use Rattle.fabric.specs.Ports.{place_of, slot_number}
+use Rattle.fabric.specs.Ports.{slot_number}
 use Rattle.switch.specs.Switches.{at}
 
 -- no flit stands at any of the four

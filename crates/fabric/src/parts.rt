@@ -67,7 +67,9 @@ impl Slot {
         ensures exact { result ≡ slot_number self % 2 ^ 64 }
         ensures here { self.node < 64 → (result ≡ slot_number self) × (result < 256) }
     {
-        self.node.wrapping_mul(PORTS).wrapping_add(self.port.index())
+        self.node
+            .wrapping_mul(PORTS)
+            .wrapping_add(self.port.index())
     }
 }
 
