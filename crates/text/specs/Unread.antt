@@ -15,9 +15,9 @@ unread x = x.rest.now
 abbrev pub line_count : Lines → ℕ
 line_count x = x.read
 
--- a text, of which nothing is read yet, or the fault of one that is too long
-abbrev pub Unopened : List ℕ → Result Lines Fault → Type 0
-Unopened t r =
+-- opening a text: nothing of it is read yet, or the fault says that it is too long
+abbrev pub Opens : List ℕ → Result Lines Fault → Type 0
+Opens t r =
     MatchResult r
     (λ x. (length t ≤ 65536) × (unread x ≡ t) × (line_count x ≡ 0))
     (λ f. (65536 < length t) × (told f ≡ too_long))

@@ -1,7 +1,7 @@
 // A text is read line by line.
 ghost use Rattle.std.specs.Prelude.{◌≡◌, ◌+◌, [], Decides};
 ghost use Rattle.text.specs.Faults.{told, ill_formed};
-ghost use Rattle.text.specs.Unread.{unread, line_count, Unopened, NextLine};
+ghost use Rattle.text.specs.Unread.{unread, line_count, Opens, NextLine};
 
 use super::{Lines, MOST_BYTES};
 use crate::fault::Fault;
@@ -9,7 +9,7 @@ use crate::field::{Fields, find};
 
 impl<'a> Lines<'a> {
     pub fn new(text: &'a [u8]) -> Result<Lines<'a>, Fault>
-        ensures { Unopened text.now result }
+        ensures { Opens text.now result }
     {
         if text.len() > MOST_BYTES {
             return Err(Fault::too_long());
