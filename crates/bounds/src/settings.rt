@@ -7,11 +7,11 @@ use fabric::layout::Layout;
 use fabric::parts::{NODES, WORDS};
 use fabric::refusal::Refusal;
 
-// The tickets of a node, at most.
-pub const OWN: usize = 8;
+// The tickets of one node, at most.
+pub const MOST_OWN: usize = 8;
 
-// All tickets of the largest network.
-pub const TICKETS: usize = NODES * OWN;
+// The tickets of all nodes, at most.
+pub const MOST_TICKETS: usize = NODES * MOST_OWN;
 
 const LONGEST_EPOCH: usize = 4096;
 
@@ -40,7 +40,7 @@ impl Settings {
             epoch,
             seed,
         } = *self;
-        if !matches!((tickets, words), (1..=OWN, 1..=WORDS)) {
+        if !matches!((tickets, words), (1..=MOST_OWN, 1..=WORDS)) {
             return Err(Refusal::Limits);
         }
         let shortest = words * (layout.reach() + 1);

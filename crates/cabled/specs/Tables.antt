@@ -78,7 +78,7 @@ pub record Wired (k n : ℕ) (cs : List Cable) (ts : List (Option Slot)) : Type 
   pub has : (s t : Slot) → Joined cs n s t → end_at ts s ≡ Some t
   pub only : (s t : Slot) → s.node < 64 → end_at ts s ≡ Some t → Joined cs n s t
 
--- k nodes with the first n of the cables: so many nodes there are, and so the table stands
+-- a wiring of so many nodes, with the table ts, is one of k nodes with the first n of the cables
 pub record Plugged (k n : ℕ) (cs : List Cable) (nodes : ℕ) (ts : List (Option Slot)) : Type 0 where
   pub same : nodes ≡ k
   pub wired : Wired nodes n cs ts

@@ -116,6 +116,6 @@ pub record Begins (F : Fabric) (P : Settings) (i : Tables) : Type 0 where
   pub follows : Follows F i [] fresh
   pub whole : Whole F i
 
--- each flit is in time, by l, whatever calls come yet
+-- whatever calls come yet, each flit that entered is taken off when l more cycles are carried out
 abbrev pub StaysInTime : Fabric → Tables → ℕ → Type 0
 StaysInTime F i l = (run : List Call) (s : State) → Follows F i run s → (more : List Call) (r : State) → Leads F i.settings (more ++ run) r → InTime l r

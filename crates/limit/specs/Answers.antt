@@ -22,7 +22,7 @@ use Rattle.laying.specs.Layings.{settings_of, RefusedBy, Judged}
 use Rattle.laying.specs.Reports.{Report, then}
 use Rattle.laying.specs.Reports.Report.{answers, faults}
 
--- each flit is in time, by l, in every network of this plan and these settings, whatever its switch and whatever calls come
+-- in every network of this plan and these settings, whatever its switch and whatever calls come, each flit that entered is taken off when l more cycles are carried out
 abbrev pub AlwaysInTime : Plan → Settings → ℕ → Type 0
 AlwaysInTime p P l = (turn : Handing → Turn) → LawfulSwitch turn → (run : List Call) (s : State) → Leads (record { plan = p; turn = turn }) P run s → InTime l s
 

@@ -1,7 +1,7 @@
 -- What a queue holds after a put, and after a take.
 use Rattle.std.proofs.Common.{◌≡◌, ℕ, zero, suc, ◌+◌, ◌-◌, ◌%◌, ◌<◌, ◌≤◌, List, [], ◌∷◌, ◌++◌, length, get_or, take as front, drop, set, sym, refl, ap, ◌∙◌, ⊎_elim, mod-eq_of_lt, arith}
 use native.Mathlib.Nat.{mod-eq-sub-mod}
-use Rattle.std.proofs.lemmas.List.{length-drop, length-set, length-append, drop-set-add, drop-set-lt, take-append-le, take_more_set, set-append_right, drop_more, drop_all}
+use Rattle.std.proofs.lemmas.List.{length-drop, length-set, length-append, length-take-le, drop-set-add, drop-set-lt, take-append-le, take_more_set, set-append_right, drop_more, drop_all}
 use Rattle.std.proofs.lemmas.Bool.{cases_lt}
 use Rattle.line.specs.Queues.{Queue, Sound, contents, put, take}
 
@@ -15,6 +15,9 @@ around f n c h k l = mod-eq-sub-mod l ∙ mod-eq_of_lt (omega arith)
 -- n values from the place f on, and round
 abbrev laid : {A : Type 0} → List A → ℕ → ℕ → List A
 laid ms f n = front n (drop f ms ++ ms)
+
+laid_length : {A : Type 0} (ms : List A) (f n : ℕ) → n ≤ length ms → length (laid ms f n) ≡ n
+laid_length ms f n h = length-take-le n (drop f ms ++ ms) (omega (arith, length-append (drop f ms) ms))
 
 module _ {A : Type 0} (ms : List A) (f : ℕ) (l : f < length ms) where
   -- a value more: before the memory's end, and round it
@@ -64,6 +67,9 @@ pub nothing_held : {A : Type 0} (q : Queue A) → q.held ≡ 0 → contents q �
 nothing_held q e = ap (laid q.memory q.first) e
 
 module _ {A : Type 0} (q : Queue A) (s : Sound q) where
+  pub so_many : length (contents q) ≡ q.held
+  so_many = laid_length q.memory q.first q.held s.0
+
   pub put_contents : (x : A) → q.held < length q.memory → contents (put q x) ≡ contents q ++ x ∷ []
   put_contents x h = laid_put q.memory q.first (s.1 (omega arith)) q.held x h
 

@@ -7,7 +7,7 @@ ghost use Rattle.runner.specs.Answering.{made_of, network_of, OneListing, Writte
 use super::planned::Planned;
 use super::session::Session;
 use super::tally::Tally;
-use bounds::settings::TICKETS;
+use bounds::settings::MOST_TICKETS;
 use calls::Network;
 use fabric::layout::Layout;
 use fabric::refusal::Refusal;
@@ -44,7 +44,7 @@ fn set_up_and_play<L: Layout + Drop, S: Switch + Drop>(
         network,
         nodes,
         tickets: settings.tickets,
-        aims: [None; TICKETS],
+        aims: [None; MOST_TICKETS],
         tally: Tally::default(),
     };
     let mut places = [Packet::default(); MOST_PACKETS];
@@ -52,7 +52,7 @@ fn set_up_and_play<L: Layout + Drop, S: Switch + Drop>(
     session.play(sheet.run.cycles, &mut planned, writer)
 }
 
-// The same, with a refusal as a fault at the run's line. A function of its own: each `?` there passes on a refusal as it is.
+// As `set_up_and_play`, with its refusal made the fault at the run's line, here in one place and not at each `?`.
 fn run<L: Layout + Drop, S: Switch + Drop>(
     layout: L,
     switch: S,

@@ -1,6 +1,6 @@
 // The run of a sheet.
 use super::tally::Tally;
-use bounds::settings::TICKETS;
+use bounds::settings::MOST_TICKETS;
 use calls::Network;
 
 mod collections;
@@ -17,6 +17,6 @@ pub(crate) struct Session<L, S> {
     // the tickets of each node
     pub tickets: usize,
     // where the packet of each ticket goes that is not free: a network does not show it
-    pub aims: [Option<usize>; TICKETS],
+    pub aims: [Option<usize>; MOST_TICKETS],
     pub tally: Tally,
 }

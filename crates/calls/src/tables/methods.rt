@@ -10,7 +10,7 @@ ghost use Rattle.calls.specs.Follow.{slot_of};
 use super::super::ticket::Ticket;
 use super::Tables;
 use batch::Batch;
-use bounds::settings::{Settings, TICKETS};
+use bounds::settings::{MOST_TICKETS, Settings};
 use clock::draw::shift;
 use clock::epoch::golden;
 use fabric::parts::{Flit, NODES, Port, SLOTS, Slot};
@@ -27,7 +27,7 @@ impl Tables {
             cycles: 0,
             register: settings.seed as u16,
             slots: [None; SLOTS],
-            tickets: [None; TICKETS],
+            tickets: [None; MOST_TICKETS],
             waits: [Batch::new(0); NODES],
         }
     }
@@ -66,7 +66,7 @@ impl Tables {
         ensures { TakesIn self.old self.new flit }
     {
         let t = usize::from(flit.ticket);
-        if t < TICKETS
+        if t < MOST_TICKETS
             && let Some(packet) = &mut self.tickets[t]
         {
             packet.receive(flit.number, flit.word);
@@ -80,7 +80,7 @@ impl Tables {
     {
         let ticket = self.waits[node].first()?;
         let t = usize::from(ticket);
-        if t >= TICKETS {
+        if t >= MOST_TICKETS {
             return None;
         }
         let cycle = self.cycles;

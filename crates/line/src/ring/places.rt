@@ -2,7 +2,7 @@
 ghost use Rattle.std.specs.Prelude.{◌≡◌, ◌<◌, ◌≤◌, List, length};
 ghost use Rattle.line.specs.Queues.{empty, free_places, place};
 ghost use Rattle.line.specs.Runs.{Use, FirstOut};
-ghost use Rattle.line.specs.Lines.{queue_of};
+ghost use Rattle.line.specs.Lines.{queue_of, holds};
 
 use super::Line;
 
@@ -23,7 +23,8 @@ impl<'a, T: Copy> Line<'a, T> {
 
     // How many values are held.
     pub fn len(&self) -> usize
-        ensures { result ≡ (queue_of self.now).held }
+        ensures held { result ≡ (queue_of self.now).held }
+        ensures count { result ≡ length (holds self.now) }
     {
         self.held
     }
