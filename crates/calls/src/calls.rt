@@ -59,7 +59,7 @@ impl<L: Layout, S: Switch> Network<L, S> {
     pub fn set_up(&mut self, settings: Settings) -> Result<(), Refusal>
         ensures exact { shown result ≡ set_up_verdict (L.plan self.old.layout) settings }
         ensures begins { OnOk result (Begins (fabric_of L.plan S.turn self.old) settings self.new.inner) }
-        ensures unchanged { OnErr result (self.new.inner ≡ self.old.inner) }
+        ensures unchanged { OnErr result (self.new ≡ self.old) }
         ensures parts { SameParts self.old self.new }
     {
         settings.judge(&self.layout)?;
@@ -86,6 +86,7 @@ impl<L: Layout, S: Switch> Network<L, S> {
         words: &[u32],
     ) -> Result<(), Refusal>
         ensures promised { Promised (fabric_of L.plan S.turn self.old) self.old.inner self.new.inner (offers node own destination words.now) (offering (shown result)) }
+        ensures unchanged { OnErr result (self.new ≡ self.old) }
         ensures parts { SameParts self.old self.new }
     {
         let nodes = self.layout.nodes();
@@ -116,6 +117,7 @@ impl<L: Layout, S: Switch> Network<L, S> {
         memory: &mut [u32],
     ) -> Result<usize, Refusal>
         ensures promised { Promised (fabric_of L.plan S.turn self.old) self.old.inner self.new.inner (collects receiver sender own memory.old) (collecting (shown result) memory.new) }
+        ensures unchanged { OnErr result (self.new ≡ self.old) }
         ensures parts { SameParts self.old self.new }
     {
         let nodes = self.layout.nodes();
@@ -186,6 +188,7 @@ impl<L: Layout, S: Switch> Network<L, S> {
     // Carries out one cycle. Answers how many flits were ejected; the line tells of each flit ejected or injected.
     pub fn cycle(&mut self, line: &mut Line<Event>) -> Result<usize, Refusal>
         ensures promised { Promised (fabric_of L.plan S.turn self.old) self.old.inner self.new.inner (cycles (queue_of line.old)) (cycling (shown result) (queue_of line.new)) }
+        ensures unchanged { OnErr result (self.new ≡ self.old) }
         ensures parts { SameParts self.old self.new }
         ensures lender { SameLender line.old line.new }
     {
