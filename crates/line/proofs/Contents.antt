@@ -1,9 +1,9 @@
--- What a queue holds after a put, and after a take.
+-- What a queue holds, place by place, after a put, and after a take.
 use Rattle.std.proofs.Common.{◌≡◌, ℕ, zero, suc, ◌+◌, ◌-◌, ◌%◌, ◌<◌, ◌≤◌, List, [], ◌∷◌, ◌++◌, length, get_or, take as front, drop, set, sym, refl, ap, ◌∙◌, ⊎_elim, mod-eq_of_lt, arith}
 use native.Mathlib.Nat.{mod-eq-sub-mod}
-use Rattle.std.proofs.lemmas.List.{length-drop, length-set, length-append, length-take-le, drop-set-add, drop-set-lt, take-append-le, take_more_set, set-append_right, drop_more, drop_all}
+use Rattle.std.proofs.lemmas.List.{length-drop, length-set, length-append, length-take-le, drop-set-add, drop-set-lt, take-append-le, take_more_set, set-append_right, drop_more, drop_all, get_or-take, get_or-drop, get_or_append_left, get_or-append_right}
 use Rattle.std.proofs.lemmas.Bool.{cases_lt}
-use Rattle.line.specs.Queues.{Queue, Sound, contents, put, take}
+use Rattle.line.specs.Queues.{Queue, Sound, InTurn, contents, put, take}
 
 -- n places after the place f of c places: before the end, and round it
 pub ahead : (f n c : ℕ) → f + n < c → (f + n) % c ≡ f + n
@@ -20,6 +20,20 @@ laid_length : {A : Type 0} (ms : List A) (f n : ℕ) → n ≤ length ms → len
 laid_length ms f n h = length-take-le n (drop f ms ++ ms) (omega (arith, length-append (drop f ms) ms))
 
 module _ {A : Type 0} (ms : List A) (f : ℕ) (l : f < length ms) where
+  laid_each : (n i : ℕ) (d : A) → i < n → n ≤ length ms → get_or (laid ms f n) i d ≡ get_or ms ((f + i) % length ms) d
+  laid_each n i d h k =
+      get_or-take n (drop f ms ++ ms) i d h
+      ∙ ⊎_elim
+      (λ j.
+      get_or_append_left (drop f ms) ms d i (omega (arith, length-drop f ms))
+      ∙ get_or-drop f ms i d
+      ∙ ap (λ p. get_or ms p d) (sym (ahead f i (length ms) j)))
+      (λ j.
+      let e : i - (length ms - f) ≡ f + i - length ms = omega arith in
+      get_or-append_right (drop f ms) ms (length ms - f) i d (length-drop f ms) (omega arith)
+      ∙ ap (λ p. get_or ms p d) (e ∙ sym (around f i (length ms) l (omega arith) j)))
+      (cases_lt (f + i) (length ms))
+
   -- a value more: before the memory's end, and round it
   put_ahead : (n : ℕ) (x : A) → f + n < length ms → laid (set ms (f + n) x) f (n + 1) ≡ laid ms f n ++ x ∷ []
   put_ahead n x h =
@@ -67,8 +81,11 @@ pub nothing_held : {A : Type 0} (q : Queue A) → q.held ≡ 0 → contents q �
 nothing_held q e = ap (laid q.memory q.first) e
 
 module _ {A : Type 0} (q : Queue A) (s : Sound q) where
-  pub so_many : length (contents q) ≡ q.held
-  so_many = laid_length q.memory q.first q.held s.0
+  pub in_turn : InTurn q
+  in_turn = record {
+    count = laid_length q.memory q.first q.held s.0;
+    each = λ i d h. laid_each q.memory q.first (s.1 (omega arith)) q.held i d h s.0;
+  }
 
   pub put_contents : (x : A) → q.held < length q.memory → contents (put q x) ≡ contents q ++ x ∷ []
   put_contents x h = laid_put q.memory q.first (s.1 (omega arith)) q.held x h

@@ -5,7 +5,7 @@ use Rattle.std.proofs.lemmas.Bool.{cond_both, eqb-true, eqb-false}
 use Rattle.std.specs.Option.{option_to_list}
 use Rattle.std.specs.Prelude.{slice_get}
 use Rattle.line.specs.Queues.{Queue, Sound, contents, oldest, free_places, full, place, put, take}
-use Rattle.line.specs.Runs.{Use, used, goes_in, comes_out, after, taken, FirstOut}
+use Rattle.line.specs.Runs.{Use, used, goes_in, comes_out, after, taken, FirstOut, Continues}
 use Rattle.line.specs.Runs.Use.{puts, takes}
 use Rattle.line.proofs.Contents.{nothing_held, put_contents, take_contents}
 
@@ -53,3 +53,6 @@ module _ {A : Type 0} where
       ∙ append_assoc (taken ms run) (contents q) (goes_in q u)
       ∙ ap (λ l. taken ms run ++ l) (in_order q (sound_after ms run) u)
       ∙ sym (append_assoc (taken ms run) (comes_out q u) (contents (used q u)))
+
+  pub continues : (q : Queue A) (u : Use A) (r : Queue A) → r ≡ used q u → Continues q u r
+  continues q u r e ms run f = (e ∙ ap (λ p. used p u) f, first_out ms (u ∷ run))

@@ -1,5 +1,5 @@
 -- A queue over a memory, of which the places are used in turn and round again.
-use Rattle.std.specs.Prelude.{ℕ, ◌+◌, ◌-◌, ◌%◌, ◌<◌, ◌≤◌, Bool, List, [], ◌∷◌, ◌++◌, length, take as front, drop, Option, ◌==◌, slice_get, slice_set}
+use Rattle.std.specs.Prelude.{◌≡◌, ℕ, ◌+◌, ◌-◌, ◌%◌, ◌<◌, ◌≤◌, Bool, List, [], ◌∷◌, ◌++◌, length, take as front, drop, Option, ◌==◌, slice_get, slice_index_or, slice_set}
 use Rattle.fabric.specs.Verdicts.{Verdict, judged}
 
 -- as many values as are held lie in turn from the place `first` on
@@ -24,6 +24,11 @@ module _ {A : Type 0} where
   -- what is held, the oldest first
   abbrev pub contents : Queue A → List A
   contents q = front q.held (drop q.first q.memory ++ q.memory)
+
+  -- the same place by place: the value i of what is held lies i places after the first
+  pub record InTurn (q : Queue A) : Type 0 where
+    pub count : length (contents q) ≡ q.held
+    pub each : (i : ℕ) (d : A) → i < q.held → slice_index_or (contents q) i d ≡ slice_index_or q.memory (place q i) d
 
   abbrev pub oldest : Queue A → Option A
   oldest q = slice_get (contents q) 0

@@ -41,6 +41,6 @@ module _ {A : Type 0} where
     abbrev pub FirstOut : List (Use A) → Type 0
     FirstOut run = accepted run ≡ taken run ++ contents (after run)
 
-  -- a queue that was where a run led is where the run with this use leads; that each run is first in, first out is promised once, by `new`
+  -- a queue that was where a run led is where the run with this use leads, and that run is first in, first out
   abbrev pub Continues : Queue A → Use A → Queue A → Type 0
-  Continues q u r = (ms : List A) (run : List (Use A)) → q ≡ after ms run → r ≡ after ms (u ∷ run)
+  Continues q u r = (ms : List A) (run : List (Use A)) → q ≡ after ms run → (r ≡ after ms (u ∷ run)) × FirstOut ms (u ∷ run)

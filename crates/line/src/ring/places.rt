@@ -1,6 +1,6 @@
 // How a line begins, and how its places stand.
 ghost use Rattle.std.specs.Prelude.{◌≡◌, ◌<◌, ◌≤◌, List, length};
-ghost use Rattle.line.specs.Queues.{empty, free_places, place};
+ghost use Rattle.line.specs.Queues.{InTurn, empty, free_places, place};
 ghost use Rattle.line.specs.Runs.{Use, FirstOut};
 ghost use Rattle.line.specs.Lines.{queue_of, holds};
 
@@ -25,6 +25,7 @@ impl<'a, T: Copy> Line<'a, T> {
     pub fn len(&self) -> usize
         ensures held { result ≡ (queue_of self.now).held }
         ensures count { result ≡ length (holds self.now) }
+        ensures places { InTurn (queue_of self.now) }
     {
         self.held
     }
