@@ -1,6 +1,7 @@
 mod Alone
 mod Filled
 mod Meaning
+mod InPlace
 mod Nearest
 mod Plugs
 mod Walks

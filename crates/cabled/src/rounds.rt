@@ -58,17 +58,17 @@ impl Wiring {
         before[node].or_else(|| self.meets(before, node, level).then_some(level + 1))
     }
 
-    // One round for all nodes.
-    fn round(&self, before: &Levels, level: u8) -> Levels
+    // One round for all nodes. In place: a node that it raises has a level that no other node is raised beside.
+    fn round(&self, row: &mut Levels, level: u8)
         requires { level < 63 }
-        ensures { (u : ℕ) → u < self.now.nodes → slice_index_or result u None ≡ again (next_at self.now.ends) (λ v. slice_index_or before.now v None) level u }
+        ensures { (u : ℕ) → u < self.now.nodes → slice_index_or row.new u None ≡ again (next_at self.now.ends) (λ v. slice_index_or row.old v None) level u }
     {
-        let mut row = *before;
         // by number, as all loops over nodes
         for node in 0..self.nodes {
-            row[node] = self.raised(before, node, level);
+            if row[node].is_none() {
+                row[node] = self.raised(row, node, level);
+            }
         }
-        row
     }
 
     // The levels of all nodes by their ways to one of them.
@@ -79,7 +79,7 @@ impl Wiring {
         let mut row = [None; NODES];
         row[to] = Some(0);
         for level in 0..MOST_STEPS {
-            row = self.round(&row, level);
+            self.round(&mut row, level);
         }
         row
     }

@@ -12,7 +12,7 @@ loop-level-preserved c =
     let w = c.args.self.now in
     λ u l.
     round (next_at w.ends) c.args.to w.nodes w.fair.1 (inside w.nodes w.ends w.paired) (λ v. get_or c.loop-level.row v None) c.loop-level.level
-    c.loop-level.invariant u (get_or c.round-row.result u None) l (c.round-row.ensures u l)
+    c.loop-level.invariant u (get_or c.round.new.row u None) l (c.round.ensures u l)
 
 pub returns : goal.returns
 returns c =
