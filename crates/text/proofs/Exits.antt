@@ -28,14 +28,6 @@ mapped P Q (Ok x) r h k g = subst (λ y. MatchResult y P Q) (sym h) k
 mapped P Q (Err e) (Ok x) h k g = absurd h
 mapped P Q (Err e) (Err f) h k g = g e f k h
 
-pub mapped_ok : {A E : Type 0} (post : E → Fault → Type 0) (N : E → Type 0) (P : A → Type 0) (o : Result A E) (r : Result A Fault) (y : A) →
-    r ≡ Ok y → MatchResult o (λ x. r ≡ Ok x) (λ e. IsErrAnd r (post e)) → MatchResult o P N → P y
-mapped_ok post N P o r y e h k = subst (λ z. MatchResult z P (λ f. Unit {0})) e (mapped P (λ f. Unit {0}) o r h k (λ x f n p. tt))
-
-pub mapped_err : {A E : Type 0} {post : E → Fault → Type 0} {N : E → Type 0} (P : A → Type 0) (Q : Fault → Type 0) (o : Result A E) (r : Result A Fault) (f : Fault) →
-    r ≡ Err f → MatchResult o (λ x. r ≡ Ok x) (λ e. IsErrAnd r (post e)) → MatchResult o P N → ((e : E) (f : Fault) → N e → post e f → Q f) → Q f
-mapped_err P Q o r f e h k g = subst (λ y. MatchResult y P Q) e (mapped P Q o r h k g)
-
 -- and no value has the words
 pub passed : {A : Type 0} (line : A → List Field) (P : A → Type 0) (ws : List (List ℕ)) (k : ℕ) (r : Result A Fault) (f : Fault) →
     Passes r f → told f ≡ ill_formed k → Unlike line P ws → Reads line P ws k r

@@ -1,13 +1,13 @@
 -- What decimal writes: digits, without a leading zero.
-use Rattle.std.proofs.Common.{◌≡◌, ℕ, ◌^◌, ◌<◌, true, false, eqb, List, [], ◌∷◌, length, get_or, decimal, Ok, Err, Result, MatchResult, sym, ap, ◌∙◌, subst, ⊎_elim, arith}
-use Rattle.std.specs.List.{starts_with}
-use Rattle.std.specs.Str.{IsUtf8}
-use Rattle.std.specs.Str.Parse.{digits_value, AllDigits, IsNumeral, ParsesUnsigned, without_leading_plus}
+use Rattle.std.proofs.Common.{◌≡◌, ℕ, ◌+◌, ◌-◌, ◌*◌, ◌^◌, ◌<◌, ◌≤◌, ◌⊎◌, List, length, get_or, take, decimal, sym, ap, ◌∙◌, subst, ⊎_elim, pow-suc, add-one, arith, Ok, Err, Result, MatchResult}
+use Rattle.std.specs.Result.{OkIff}
+use Rattle.std.specs.Str.Parse.{digits_value, AllDigits}
+use Rattle.std.specs.Char.{digit_value}
+use Rattle.std.proofs.lemmas.Int.Digits.{digits_value_more, digits_more}
 use Rattle.std.proofs.lemmas.Str.Parse.{IsNumeralModel, numerals_by_value, tells_digits, digit_at}
-use Rattle.std.proofs.lemmas.Fmt.{digits_decimal, digits_value-decimal, decimal_nonempty, first_decimal, decimal_digit, decimal-digits_value, IsAscii-decimal}
-use Rattle.std.proofs.lemmas.Str.{IsUtf8-from_ascii}
+use Rattle.std.proofs.lemmas.Fmt.{digits_decimal, digits_value-decimal, decimal_nonempty, length-decimal-le, first_decimal, decimal_digit, decimal-digits_value}
+use Rattle.std.proofs.lemmas.Str.{digit_value_digit}
 use Rattle.std.proofs.lemmas.Bool.{cases_lt}
-use Rattle.std.proofs.lemmas.Grind.{common_steps}
 use Rattle.text.specs.Fields.{Unwritten}
 
 pub own : IsNumeralModel (AllDigits 10) (digits_value 10)
@@ -18,6 +18,7 @@ pub record Writes (ds : List ℕ) (n : ℕ) : Type 0 where
   pub digits : AllDigits 10 ds
   pub same : digits_value 10 ds ≡ n
   pub some : 0 < length ds
+  pub short : length ds ≤ 10
   pub first : get_or ds 0 0 ≡ 48 → length ds ≡ 1
 
 leads : (n : ℕ) → n < 2 ^ 32 → get_or (decimal n) 0 0 ≡ 48 → length (decimal n) ≡ 1
@@ -33,53 +34,36 @@ writes n h =
       digits = digits_decimal own n (omega arith);
       same = digits_value-decimal own n (omega arith);
       some = decimal_nonempty n (omega arith);
+      short = length-decimal-le 10 n (omega arith) (omega arith) (omega arith);
       first = leads n h;
     }
 
-unwritten : (ds : List ℕ) → ((n : ℕ) → n < 2 ^ 32 → Writes ds n → ⊥) → Unwritten ds
+-- a word that no number writes
+pub unwritten : (ds : List ℕ) → ((n : ℕ) → n < 2 ^ 32 → Writes ds n → ⊥) → Unwritten ds
 unwritten ds f n h e = f n h (subst (λ x. Writes x n) (sym e) (writes n h))
 
 -- a word that writes its value
 pub written : (ds : List ℕ) → AllDigits 10 ds → 0 < length ds → (get_or ds 0 0 ≡ 48 → length ds ≡ 1) → digits_value 10 ds < 2 ^ 64 → ds ≡ decimal (digits_value 10 ds)
 written ds d s f v = sym (decimal-digits_value own ds d s f v)
 
+digit_of : (c : ℕ) → 48 ≤ c → c ≤ 57 → c - 48 ≡ digit_value c
+digit_of c a b = let h = digit_value_digit c (a, b) in omega arith
+
+-- one digit more
+pub value_step : (ds : List ℕ) (i n : ℕ) → i < length ds → 48 ≤ get_or ds i 0 → get_or ds i 0 ≤ 57 → n ≡ digits_value 10 (take i ds) → n * 10 + (get_or ds i 0 - 48) ≡ digits_value 10 (take (i + 1) ds)
+value_step ds i n l a b e = ap (λ x. x * 10 + (get_or ds i 0 - 48)) e ∙ ap (λ x. digits_value 10 (take i ds) * 10 + x) (digit_of (get_or ds i 0) a b) ∙ sym (digits_value_more 10 ds i l)
+
+pub digits_step : (ds : List ℕ) (i : ℕ) → i < length ds → 48 ≤ get_or ds i 0 → get_or ds i 0 ≤ 57 → AllDigits 10 (take i ds) → AllDigits 10 (take (i + 1) ds)
+digits_step ds i l a b h = digits_more 10 ds i l h (let e = digit_of (get_or ds i 0) a b in omega arith)
+
+pub power_step : (n i d : ℕ) → n < 10 ^ i → d ≤ 9 → n * 10 + d < 10 ^ (i + 1)
+power_step n i d h k = rw (add-one, pow-suc) (omega arith)
+
 -- where a byte is no digit
-no_digit : (ds : List ℕ) (i : ℕ) → i < length ds → get_or ds i 0 < 48 → (n : ℕ) → n < 2 ^ 32 → Writes ds n → ⊥
-no_digit ds i l o n h w = let k = digit_at ds i w.digits l in omega (arith, k.0)
+pub no_digit : (ds : List ℕ) (i : ℕ) → i < length ds → (get_or ds i 0 < 48) ⊎ (57 < get_or ds i 0) → (n : ℕ) → n < 2 ^ 32 → Writes ds n → ⊥
+no_digit ds i l o n h w = let k = digit_at ds i w.digits l in omega (arith, k.0, k.1)
 
-begins : (c : ℕ) (ds : List ℕ) → starts_with eqb ds (c ∷ []) ≡ true → (0 < length ds) × (get_or ds 0 0 ≡ c)
-begins c [] h = cc
-begins c (x ∷ xs) h = (omega arith, grind (arith, common_steps))
-
-begins_not : (c : ℕ) (ds : List ℕ) → starts_with eqb ds (c ∷ []) ≡ false → 0 < length ds → get_or ds 0 0 ≡ c → ⊥
-begins_not c [] h l e = omega arith
-begins_not c (x ∷ xs) h l e = grind (arith, common_steps)
-
--- a plus, a leading zero, and bytes that are no text
-pub signed : (ds : List ℕ) → starts_with eqb ds (43 ∷ []) ≡ true → Unwritten ds
-signed ds h = let b = begins 43 ds h in unwritten ds (no_digit ds 0 b.0 (omega (arith, b.1)))
-
-pub padded : (ds : List ℕ) → 1 < length ds → starts_with eqb ds (48 ∷ []) ≡ true → Unwritten ds
-padded ds l h = unwritten ds (λ n k w. omega (arith, w.first (begins 48 ds h).1))
-
-pub foreign : (ds : List ℕ) → (IsUtf8 ds → ⊥) → Unwritten ds
-foreign ds f n h e = f (subst IsUtf8 (sym e) (IsUtf8-from_ascii (decimal n) (IsAscii-decimal n (omega arith))))
-
--- what a text without plus and leading zero parses to
-module _ (ds : List ℕ) (h : starts_with eqb ds (43 ∷ []) ≡ false) where
-  unsigned : without_leading_plus ds ≡ ds
-  unsigned = grind (arith, common_steps)
-
-  unparsed : (IsNumeral 10 (without_leading_plus ds) × (digits_value 10 (without_leading_plus ds) < 2 ^ 32) → ⊥) → Unwritten ds
-  unparsed f = unwritten ds (λ n k w. subst (λ bs. IsNumeral 10 bs × (digits_value 10 bs < 2 ^ 32) → ⊥) unsigned f ((w.some, w.digits), omega (arith, w.same)))
-
-  parsed : (n : ℕ) → (1 < length ds → starts_with eqb ds (48 ∷ []) ≡ false) → IsNumeral 10 (without_leading_plus ds) → digits_value 10 (without_leading_plus ds) < 2 ^ 32 → digits_value 10 (without_leading_plus ds) ≡ n → ds ≡ decimal n
-  parsed n z u l e =
-      let num = subst (IsNumeral 10) unsigned u in
-      let same = ap (digits_value 10) (sym unsigned) ∙ e in
-      let one = λ (k : get_or ds 0 0 ≡ 48). ⊎_elim (λ m. absurd (begins_not 48 ds (z m) num.0 k)) (λ m. let y : length ds ≡ 1 = omega (arith, num.0) in y) (cases_lt 1 (length ds)) in
-      written ds num.1 num.0 one (omega (arith, same)) ∙ ap decimal same
-
-  pub judged : {E : Type 0} (r : Result ℕ E) → (1 < length ds → starts_with eqb ds (48 ∷ []) ≡ false) → ParsesUnsigned 32 10 ds r → MatchResult r (λ n. ds ≡ decimal n) (λ e. Unwritten ds)
-  judged (Ok n) z g = parsed n z g.0.0 g.0.1 (sym g.1)
-  judged (Err e) z g = unparsed g
+-- what the value of a word's digits is as a number of 32 bits
+pub judged : {E : Type 0} (ds : List ℕ) (n : ℕ) (r : Result ℕ E) → n ≡ digits_value 10 ds → ds ≡ decimal n → OkIff r (n < 2 ^ 32) n → MatchResult r (λ m. ds ≡ decimal m) (λ e. Unwritten ds)
+judged ds n (Ok m) v d g = d ∙ ap decimal (sym g.1)
+judged ds n (Err e) v d g = unwritten ds (λ m h w. g (omega (arith, w.same)))
