@@ -3,7 +3,7 @@ use Rattle.std.proofs.Common.{◌≡◌, ℕ, zero, suc, ◌+◌, ◌*◌, ◌/�
 use Rattle.std.specs.Option.{ok_or}
 use Rattle.std.proofs.Math.Nat.{pow-succ'}
 use Rattle.std.proofs.lemmas.Fmt.{decimal_step, decimal_digit, length-decimal-le}
-use Rattle.std.proofs.lemmas.List.{append-nil, length-append, length_push, drop-drop, take_more, map_push, flat_map_more}
+use Rattle.std.proofs.lemmas.List.{append-nil, length-append, length_push, length-drop, drop-drop, take_more, map_push, flat_map_more}
 use Rattle.fabric.specs.declared.refusal.Refusal.{Refusal}
 use Rattle.fabric.specs.declared.refusal.Refusal.TheVariants.{Memory}
 use Rattle.text.specs.Texts.{Field, word, number, shown, figures, after_spaces, row, written}
@@ -23,6 +23,9 @@ appends_both w v u a b f g =
 pub puts_both : (w v u : Writer) (a b : List ℕ) → Puts w a v → Puts v b u → Puts w (a ++ b) u
 puts_both w v u a b f g =
     record { appends = appends_both w v u a b f.appends g.appends; lender = g.lender ∙ f.lender; room = omega (arith, length-append a b) }
+
+pub at_room : (w : Writer) → 1 ≤ length (beyond w) → w.len < length w.memory.now
+at_room w h = omega (arith, length-drop w.len w.memory.now)
 
 -- a number has one digit more than its tenth
 pub length_step : (n : ℕ) → 10 ≤ n → n < 2 ^ 32 → length (decimal n) ≡ length (decimal (n / 10)) + 1

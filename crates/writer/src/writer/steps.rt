@@ -18,16 +18,18 @@ impl<'a> Writer<'a> {
         requires { 1 ≤ length (beyond self.old) }
         ensures { Puts self.old (b ∷ []) self.new }
     {
-        self.bytes(&[b]);
+        self.memory[self.len] = b;
+        self.len += 1;
     }
 
     pub(super) fn bytes(&mut self, s: &[u8])
         requires { length s.now ≤ length (beyond self.old) }
         ensures { Puts self.old s.now self.new }
     {
-        let end = self.len + s.len();
-        self.memory[self.len..end].copy_from_slice(s);
-        self.len = end;
+        // one by one: with `copy_from_slice` the library to link would need `memmove` from outside
+        for b in s {
+            self.byte(*b);
+        }
     }
 
     // A word after a space.
