@@ -29,7 +29,7 @@ use Rattle.laying.specs.Reports.Report.{answers, faults}
 use Rattle.laying.specs.Layings.{settings_of, Judged}
 use Rattle.laying.proofs.Single.{one_judgement, judged_law}
 use Rattle.writer.specs.Listings.{no_line, done_line, end_line}
-use Rattle.runner.specs.Answering.{network_of, ListsSheet, Listing, OneListing}
+use Rattle.runner.specs.Answering.{network_of, ListsSheet, Listing, OneListing, OneListingOfRun}
 use Rattle.runner.specs.Listing.{line_of, ins, outs, under_way, mean_of, offer_of, Offers, Collects, Turn, Turns, Lists}
 use Rattle.runner.specs.Listing.Offers.{none as none_offered, accepted, declined}
 use Rattle.runner.specs.Listing.Collects.{none as none_collected, brought, left}
@@ -181,7 +181,7 @@ module _ (F : Fabric) (P : Settings) where
     listing_is l = l.bytes ∙ ap listing_of (turns_are l.turns)
 
 -- a run has one listing: whatever lines of events its cycles are called with
-one_run : (F : Fabric) (P : Settings) → Lawful F.plan → (ps : List Packet) (cycles : ℕ) (bs bs' : List ℕ) → Lists F P ps cycles bs → Lists F P ps cycles bs' → bs ≡ bs'
+pub one_run : OneListingOfRun
 one_run F P law ps cycles bs bs' l l' = listing_is F P law l ∙ sym (listing_is F P law l')
 
 -- the sheet is answered so, but for its packets

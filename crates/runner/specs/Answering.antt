@@ -1,14 +1,16 @@
 -- The listing of any bytes: of the run of the sheet whose text they are, or of their fault.
 use Rattle.std.specs.Prelude.{◌≡◌, ℕ, ◌<◌, ◌≤◌, ◌⊎◌, List, [], ◌++◌, length, drop, Result, MatchResult}
-use Rattle.fabric.specs.Layouts.{Plan}
+use Rattle.fabric.specs.Layouts.{Plan, Lawful}
 use Rattle.fabric.specs.Verdicts.{Verdict}
 use Rattle.fabric.specs.Verdicts.Verdict.{granted, refused}
 use Rattle.switch.specs.Switches.{Handing, Turn}
 use Rattle.switch.specs.Chippers.{chipper_turn}
 use Rattle.switch.specs.Blesses.{bless_turn}
+use Rattle.bounds.specs.declared.settings.Settings.{Settings}
 use Rattle.bounds.specs.SetUp.{set_up_verdict}
 use Rattle.network.specs.Cycle.{Fabric}
 use Rattle.text.specs.declared.fault.Fault.{Fault}
+use Rattle.text.specs.declared.parts.Packet.{Packet}
 use Rattle.text.specs.declared.parts.SwitchKind.{SwitchKind}
 use Rattle.text.specs.declared.parts.SwitchKind.TheVariants.{Chipper, Bless}
 use Rattle.text.specs.Faults.{told, fault_fields}
@@ -45,6 +47,11 @@ abbrev pub Listing : List ℕ → List ℕ → Type 0
 Listing text bs =
     ((s : Said) × SheetText text s × ((r : Report Plan) × Judged s.shape s.cables s.run r × ListsSheet s r bs))
     ⊎ ((f : Fault) × Refused text f × (bs ≡ written (fault_fields (told f))))
+
+-- a run of packets in a network of a lawful layout has one listing, whatever lines of events its cycles are called with
+abbrev pub OneListingOfRun : Type 0
+OneListingOfRun = (F : Fabric) (P : Settings) → Lawful F.plan → (ps : List Packet) (cycles : ℕ) (bs bs' : List ℕ) →
+    Lists F P ps cycles bs → Lists F P ps cycles bs' → bs ≡ bs'
 
 -- the bytes have one listing, whatever lines of events the cycles of their run are called with
 pub record OneListing (text : List ℕ) : Type 0 where

@@ -1,8 +1,10 @@
 // The listing of a run sheet, or of its fault.
+ghost use Rattle.std.specs.Prelude.{ℕ, List};
 ghost use Rattle.fabric.specs.Refusals.{shown};
 ghost use Rattle.runsheet.specs.Said.{said};
+ghost use Rattle.runsheet.specs.Sheets.{SheetText};
 ghost use Rattle.writer.specs.Listings.{SameLender};
-ghost use Rattle.runner.specs.Answering.{made_of, network_of, OneListing, WrittenOut, Blank, Runnable, Ran, Ended, Carried};
+ghost use Rattle.runner.specs.Answering.{made_of, network_of, OneListing, OneListingOfRun, WrittenOut, Blank, Runnable, Ran, Ended, Carried};
 
 use super::planned::Planned;
 use super::session::Session;
@@ -78,22 +80,34 @@ fn run_on<L: Layout + Drop>(layout: L, sheet: &Sheet, writer: &mut Writer) -> Re
     }
 }
 
+// The sheet's run on its layout. Neither this nor `read` is inlined: the locals of each are large, and would stand on the
+// stack beside those of the other.
+#[inline(never)]
+fn run_sheet(sheet: &Sheet, writer: &mut Writer) -> Result<(), Fault>
+    requires { Runnable sheet.now writer.old }
+    ensures carried { (text : List ℕ) → SheetText text (said sheet.now) → Carried text writer.old writer.new result }
+    ensures lender { SameLender writer.old writer.new }
+{
+    match sheet.shape {
+        Shape::Mesh { width, height } => {
+            let mesh = lay_mesh(width, height)?;
+            run_on(mesh, sheet, writer)
+        }
+        // A match: with a `?` the layout would stand on the stack once more.
+        Shape::Cabled { nodes } => match lay_cables(nodes, sheet.cables()) {
+            Ok(layout) => run_on(layout, sheet, writer),
+            Err(fault) => Err(fault),
+        },
+    }
+}
+
 fn carry_out(bytes: &[u8], writer: &mut Writer) -> Result<(), Fault>
     requires { Blank writer.old }
     ensures carried { Carried bytes.now writer.old writer.new result }
     ensures lender { SameLender writer.old writer.new }
 {
     let sheet = read(bytes)?;
-    match sheet.shape {
-        Shape::Mesh { width, height } => {
-            let mesh = lay_mesh(width, height)?;
-            run_on(mesh, &sheet, writer)
-        }
-        Shape::Cabled { nodes } => {
-            let layout = lay_cables(nodes, sheet.cables())?;
-            run_on(layout, &sheet, writer)
-        }
-    }
+    run_sheet(&sheet, writer)
 }
 
 // Writes the listing of any bytes at the start of the memory, and answers its length.
@@ -101,6 +115,7 @@ fn carry_out(bytes: &[u8], writer: &mut Writer) -> Result<(), Fault>
 pub fn list(sheet: &[u8], memory: &mut [u8]) -> Result<usize, Refusal>
     ensures out { WrittenOut sheet.now memory.old (shown result) memory.new }
     ensures only { OneListing sheet.now }
+    ensures run { OneListingOfRun }
 {
     if memory.len() < MEMORY {
         return Err(Refusal::Memory);

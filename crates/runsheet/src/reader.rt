@@ -181,8 +181,9 @@ impl Reader {
     }
 }
 
-// Reads a whole sheet.
+// Reads a whole sheet. It is not inlined, so that its locals are off the stack while the sheet is run.
 #[tactic(auto, using(crate::proofs::Single::one_sheet))]
+#[inline(never)]
 pub fn read(bytes: &[u8]) -> Result<Sheet, Fault>
     ensures read { MatchResult result (λ s. SheetText bytes.now (said s)) (λ f. Refused bytes.now f) }
     ensures only { OneSheet bytes.now }

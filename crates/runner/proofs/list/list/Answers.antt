@@ -5,11 +5,15 @@ use Rattle.writer.specs.Listings.{listed, SameLender}
 use Rattle.runner.specs.Answering.{WrittenOut}
 use Rattle.runner.specs.Answering.WrittenOut.{short}
 use Rattle.runner.proofs.Listing.{ran_through, no_room, fault_out}
+use Rattle.runner.proofs.Only.{one_run}
 use Rattle.runner.proofs.list.list.Goals as goal
 use Rattle.runner.proofs.list.list.Goals.{in-Err+in_ok-fault, in_default}
 
 pub returns-then-memory-lt-MEMORY-clause-out : goal.returns-then-memory-lt-MEMORY-clause-out
 returns-then-memory-lt-MEMORY-clause-out c = short c.if-memory-lt-MEMORY.true
+
+pub returns-then-memory-lt-MEMORY-clause-run : goal.returns-then-memory-lt-MEMORY-clause-run
+returns-then-memory-lt-MEMORY-clause-run c = one_run
 
 pub returns-in_err-fault : goal.returns-in_err-fault
 returns-in_err-fault c =
@@ -40,3 +44,6 @@ returns-clause-out c =
     ] in
     let same = sym (both.0 ∙ c.new-writer.ensures.lender) in
     search (rules, λ (x : List ℕ) (p : x ≡ v.memory.now). subst (λ (m : List ℕ). WrittenOut c.args.sheet.now c.args.memory.now (granted c.len.result) m) (sym p) both.1)
+
+pub returns-clause-run : goal.returns-clause-run
+returns-clause-run c = one_run
